@@ -1,3 +1,4 @@
 mod Ends
 mod Growing
+mod Marks
 mod Worked

@@ -3,6 +3,7 @@ use Rattle.std.specs.Prelude.{ℕ, ◌+◌, ◌≤◌, List, [], ◌∷◌, ◌+
 use Rattle.history_event.specs.declared.event.Event.{Event}
 use Rattle.history_event.specs.declared.hart_end.HartEnd.{HartEnd}
 use Rattle.word_rule.specs.declared.view.TrailItem.{TrailItem}
+use Rattle.word_rule.specs.Generations.{AllKept, MarksOnce}
 use Rattle.history_state.specs.Setting.{Setting}
 use Rattle.hart_moves.specs.Follows.{Follows, FollowsToItsEnd, HasNone, Turned, TurnsAt}
 use Rattle.hart_moves.specs.Harts.{HartState}
@@ -30,3 +31,8 @@ TrailsFollow = (w : Setting) (journal : List Event) (h from to : ℕ) (b c : Har
 abbrev pub EndsFollow : Type 0
 EndsFollow = (w : Setting) (journal : List Event) (start : HartStart) (h : ℕ) (reason : HartEnd) (trail : List TrailItem)
     → LeavesToItsEnd w journal start h reason trail → FollowsToItsEnd w journal start h reason
+
+-- where each reading in a whole trail is kept, each answer on thread-local storage that is no event is the first answer of its module and generation
+abbrev pub MarksFollow : Type 0
+MarksFollow = (w : Setting) (journal : List Event) (start : HartStart) (h : ℕ) (reason : HartEnd) (trail : List TrailItem)
+    → LeavesToItsEnd w journal start h reason trail → AllKept [] trail → MarksOnce [] trail

@@ -1,7 +1,7 @@
 //! What holds of trails.
 
 ghost use Rattle.hart_trails.specs.Ends.{EndIsLast, OneEndOfTrail, StartIsFresh};
-ghost use Rattle.hart_trails.specs.Laws.{EndsFollow, TrailsFollow, TrailsStay, TurnsBehind};
+ghost use Rattle.hart_trails.specs.Laws.{EndsFollow, MarksFollow, TrailsFollow, TrailsStay, TurnsBehind};
 ghost use Rattle.hart_trails.specs.Worked.{FollowsExchange};
 
 /// A trail goes on with what one more turn leaves; and it is one over each longer journal.
@@ -22,6 +22,12 @@ pub fn trails_end()
     ensures last { EndIsLast }
     ensures one { OneEndOfTrail }
     ensures start { StartIsFresh }
+{}
+
+/// A hart asks for a block of thread-local storage only where it keeps none: in a whole trail whose readings
+/// of the generation show what is kept, no answer without an event comes twice for a module and a generation.
+pub fn blocks_are_asked_once()
+    ensures { MarksFollow }
 {}
 
 /// A worked trail: an exchange that won, and the end of its offer.

@@ -16,10 +16,11 @@ use Rattle.word_rule.specs.declared.view.Fate.{Fate}
 use Rattle.word_rule.specs.declared.view.Fate.TheVariants.{Won as FateWon, Lost as FateLost}
 use Rattle.word_rule.specs.declared.view.KeeperView.{KeeperView}
 use Rattle.word_rule.specs.declared.view.Kept.{Kept}
+use Rattle.word_rule.specs.declared.view.Loss.{Loss}
 use Rattle.word_rule.specs.declared.view.Row.{Row}
 use Rattle.word_rule.specs.declared.view.Settled.{Settled}
 use Rattle.word_rule.specs.Allowed.{IsLost, IsOf, IsSlot, IsWon, Stands}
-use Rattle.word_rule.specs.KeeperSteps.{settled_as, with_kept}
+use Rattle.word_rule.specs.KeeperSteps.{losing, settled_as, with_kept}
 use Rattle.word_rule.specs.Layout.{doublewords, harts_at_most, place_of}
 use Rattle.word_rule.specs.Slots.{IsGrant}
 use Rattle.word_rule.specs.Views.{IsLong, kept_at, row_of, unmapped}
@@ -42,7 +43,7 @@ use Rattle.history_calls.specs.Laws.{hart_of}
 use Rattle.word_holds.specs.Shared.{IsOfState}
 use Rattle.kept_words.specs.Handed.{event_numbers}
 use Rattle.kept_words.specs.Keeping.{AskedKept}
-use Rattle.kept_words.specs.Kept.{AreKept, HasSeen, HaveFates, IsFateEvent, LostHaveSeen}
+use Rattle.kept_words.specs.Kept.{AreKept, HasSeen, HaveFates, IsFateEvent, LostHaveSeen, ShowsLoss}
 use Rattle.kept_words.specs.Settling.{LostMayLose, WonMayBind}
 use Rattle.kept_words.specs.Staying.{IsGrantEvent, SameGrants, Settles, fated_in, number_in}
 use Rattle.kept_words.proofs.Handed.{counted_stays, issued_stays}
@@ -125,11 +126,12 @@ module _ (w : Setting) (begun : List Event) (k : KeeperView) (kept : AreKept w b
     (pending : (row_of k h).pending ≡ Some g) (of : IsOf (kept_at k) (place_of g.entry.slot) g) (settles : Settles fate standing) (may : Allowed w k.events e)
     (event : Settling (after k.events) e (number_in k.events h g) standing) (words : List Kept) (sees : SeesOnly k words)
     (new_lost : fate ≡ FateLost → (saw : ℕ) × ((slice_index_or words (place_of g.entry.slot) unmapped).fixed ≡ Some saw) × (e ≡ events.Lost (number_in k.events h g) saw))
-    (sees_lost : SeesLost k words (place_of g.entry.slot) standing) (fate_event : IsFateEvent (number_in k.events h g) fate e) where
+    (sees_lost : SeesLost k words (place_of g.entry.slot) standing) (fate_event : IsFateEvent (number_in k.events h g) fate e)
+    (losses : List Loss) (grows : (x : Loss) → Contains k.losses x → Contains losses x) (shows : ShowsLoss losses h g e) where
   back : (m : ℕ) (p : Grant) → Stands (row_of (fated_in fate h k) m) p → Stands (row_of k m) p
   back = stood k h g fate kept.long low pending
 
-  same : SameGrants (fated_in fate h k) (record (record (fated_in fate h k) { words = words }) { events = k.events ++ e ∷ [] })
+  same : SameGrants (fated_in fate h k) (record (fated_in fate h k) { words = words; losses = losses; events = k.events ++ e ∷ [] })
   same = record { words = sees.same; pending = λ m. refl; settled = λ m. refl }
 
   state_is : after (k.events ++ e ∷ []) ≡ settle (number_in k.events h g) standing (after k.events)
@@ -181,13 +183,13 @@ module _ (w : Setting) (begun : List Event) (k : KeeperView) (kept : AreKept w b
   its_number : number_in (k.events ++ e ∷ []) h g ≡ number_in k.events h g
   its_number = same_number h g low (inl pending)
 
-  fates : HaveFates (record (record (fated_in fate h k) { words = words }) { events = k.events ++ e ∷ [] })
+  fates : HaveFates (record (fated_in fate h k) { words = words; losses = losses; events = k.events ++ e ∷ [] })
   fates = record {
     entered = λ m p few is. later_event k.events (e ∷ []) m p (kept.rows.fates.entered m p few (was_granted k h g fate kept.long low pending m p is));
     fated = λ m p f few there. ⊎_elim
         (λ (old : Contains (row_of k m).settled (record { grant = p; fate = f })).
         let x = kept.rows.fates.fated m p f few old in
-        (x.0, Contains-append_left k.events (e ∷ []) x.0 x.1, subst (λ (n : ℕ). IsFateEvent n f x.0) (sym (same_number m p few (inr (f, old)))) x.2))
+        (x.0, Contains-append_left k.events (e ∷ []) x.0 x.1, subst (λ (n : ℕ). IsFateEvent n f x.0) (sym (same_number m p few (inr (f, old)))) x.2, λ n word is. grows _ (x.3 n word is)))
         (λ (new : (m ≡ h) × (p ≡ g) × (f ≡ fate)). (
           e,
           Contains-append_right k.events (e ∷ []) e (here e []),
@@ -195,20 +197,21 @@ module _ (w : Setting) (begun : List Event) (k : KeeperView) (kept : AreKept w b
               (subst (λ (q : Grant). IsFateEvent (number_in (k.events ++ e ∷ []) h q) f e) (sym new.1)
               (subst (λ (z : Fate). IsFateEvent (number_in (k.events ++ e ∷ []) h g) z e) (sym new.2)
               (subst (λ (n : ℕ). IsFateEvent n fate e) (sym its_number) fate_event))),
+          subst (λ (i : ℕ). ShowsLoss losses i p e) (sym new.0) (subst (λ (q : Grant). ShowsLoss losses h q e) (sym new.1) shows),
         ))
         (was_known k h g fate kept.long low pending m p f there);
     known = λ n f y there is. ⊎_elim
         (λ (old : Contains k.events y).
         let x = kept.rows.fates.known n f y old is in
-        (x.0, x.1, x.2, still_settled x.0 x.1 f x.3, same_number x.0 x.1 x.2 (inr (f, x.3)) ∙ x.4))
+        (x.0, x.1, x.2, still_settled x.0 x.1 f x.3, same_number x.0 x.1 x.2 (inr (f, x.3)) ∙ x.4, λ n word same. grows _ (x.5 n word same)))
         (λ (new : Contains (e ∷ []) y).
         let one = fate_one (number_in k.events h g) n fate f e fate_event (subst (IsFateEvent n f) (sym (only_in e y new)) is) in
-        (h, g, low, subst (λ (z : Fate). Contains (row_of (fated_in fate h k) h).settled (record { grant = g; fate = z })) one.1 its_settled, its_number ∙ one.0))
+        (h, g, low, subst (λ (z : Fate). Contains (row_of (fated_in fate h k) h).settled (record { grant = g; fate = z })) one.1 its_settled, its_number ∙ one.0, subst (ShowsLoss losses h g) (only_in e y new) shows))
         (Contains-append_cases k.events (e ∷ []) y there);
   }
 
   abbrev l : KeeperView
-  l = record (record (fated_in fate h k) { words = words }) { events = k.events ++ e ∷ [] }
+  l = record (fated_in fate h k) { words = words; losses = losses; events = k.events ++ e ∷ [] }
 
   -- what is known as lost stays so, and its slot is as it was
   still_lost : (m : ℕ) (p : Grant) → IsLost (row_of k m) p → IsLost (row_of (fated_in fate h k) m) p
@@ -282,7 +285,7 @@ module _ (w : Setting) (begun : List Event) (k : KeeperView) (kept : AreKept w b
             };
           }
 
-  pub settled_kept : AreKept w begun (record (record (fated_in fate h k) { words = words }) { events = k.events ++ e ∷ [] })
+  pub settled_kept : AreKept w begun (record (fated_in fate h k) { words = words; losses = losses; events = k.events ++ e ∷ [] })
   settled_kept = record {
     few = kept.few;
     harts = kept.harts;
@@ -291,9 +294,9 @@ module _ (w : Setting) (begun : List Event) (k : KeeperView) (kept : AreKept w b
     started = startup_is_past k.events (e ∷ []) kept.started;
     begins = (kept.begins.0 ++ e ∷ [], ap (λ (es : List Event). es ++ e ∷ []) kept.begins.1 ∙ append_assoc begun kept.begins.0 (e ∷ []));
     own = own_push_none w k.events e kept.own event.nobodys;
-    words = subst (λ (s : State). IsOfState s (record (record (fated_in fate h k) { words = words }) { events = k.events ++ e ∷ [] }) (number_in (k.events ++ e ∷ []))) (sym state_is)
+    words = subst (λ (s : State). IsOfState s (record (fated_in fate h k) { words = words; losses = losses; events = k.events ++ e ∷ [] }) (number_in (k.events ++ e ∷ []))) (sym state_is)
         (states_stay (settle (number_in k.events h g) standing (after k.events)) (settle (number_in k.events h g) standing (after k.events)) (fated_in fate h k)
-        (record (record (fated_in fate h k) { words = words }) { events = k.events ++ e ∷ [] }) (number_in k.events) (number_in (k.events ++ e ∷ []))
+        (record (fated_in fate h k) { words = words; losses = losses; events = k.events ++ e ∷ [] }) (number_in k.events) (number_in (k.events ++ e ∷ []))
         (record { role = λ a word. refl; word = λ a word roles. refl; images = refl; grants = refl }) same
         (λ m p few stands. later_number k.events (e ∷ []) m p (is_event m p few stands))
         (settled_stays (after k.events) (tidy_after w.machine k.events (legal_is_lawful w k.events kept.legal)) k (number_in k.events) kept.words kept.long h low g pending of fate standing settles));
@@ -333,6 +336,7 @@ asked_kept won lost w begun k h state g asked.Open accepts kept low pending tell
       issued = row_field (λ (y : Row). y.issued) k h (record (row_of k h) { found_open = true }) (inside k h kept.long low) refl;
       pending = row_field (λ (y : Row). y.pending) k h (record (row_of k h) { found_open = true }) (inside k h kept.long low) refl;
       settled = row_field (λ (y : Row). y.settled) k h (record (row_of k h) { found_open = true }) (inside k h kept.long low) refl;
+      losses = refl;
     }) kept
 asked_kept won lost w begun k h state g asked.Won accepts kept low pending tells says saw =
     settled_kept w begun k kept h g FateWon Bound (events.Bound (number_in k.events h g)) low pending (tells.of_slot g pending) Settles.as_bound
@@ -344,9 +348,10 @@ asked_kept won lost w begun k h state g asked.Won accepts kept low pending tells
       fixed = λ word is. absurd (let q : Bound ≡ Lost word = is in cc);
       bound = λ word is. absurd (let q : Bound ≡ Lost word = is in cc);
     })
-    IsFateEvent.as_won
+    IsFateEvent.as_won k.losses (λ x there. there) (λ n word is. let q : events.Bound (number_in k.events h g) ≡ events.Lost n word = is in absurd (cc))
 asked_kept won lost w begun k h state g (asked.Lost found) accepts kept low pending tells says saw =
-    subst (λ (d : ℕ). AreKept w begun (counted (events.Lost (number_in k.events h g) found) (with_kept d (record (kept_at k d) { fixed = Some found }) (fated_in FateLost h k)))) slot_is
+    subst (λ (q : Grant). let d = place_of q.entry.slot in AreKept w begun (counted (events.Lost (number_in k.events h g) found) (losing h q found (with_kept d (record (kept_at k d) { fixed = Some found }) (fated_in FateLost h k)))))
+    (tells.in_row g pending)
     (settled_kept w begun k kept h g FateLost (Lost found) (events.Lost (number_in k.events h g) found) low pending (tells.of_slot g pending) (Settles.as_lost found)
     (lost w.machine k.events k (number_in k.events) h state found g accepts (legal_is_lawful w k.events kept.legal) kept.words kept.long low pending tells saw)
     (record { state = refl; nobodys = refl }) (with_kept (place_of g.entry.slot) seen k).words
@@ -356,13 +361,15 @@ asked_kept won lost w begun k h state g (asked.Lost found) accepts kept low pend
       fixed = λ word is. ap (λ (y : Kept). y.fixed) here_is ∙ (let q : found ≡ word = cc in ap (λ (n : ℕ). Some n) q);
       bound = λ word is differs. (let q : found ≡ word = cc in sym q) ∙ saw.bound differs;
     })
-    (IsFateEvent.as_lost found))
+    (IsFateEvent.as_lost found) (k.losses ++ loss ∷ []) (λ x there. Contains-append_left k.losses (loss ∷ []) x there)
+    (λ n word is. let q : events.Lost (number_in k.events h g) found ≡ events.Lost n word = is in let same : found ≡ word = cc in
+        subst (λ (y : ℕ). Contains (k.losses ++ loss ∷ []) (record { hart = h; exchange = record { grant = g; found = y } })) same (Contains-append_right k.losses (loss ∷ []) loss (here loss []))))
   where
+    loss : Loss
+    loss = record { hart = h; exchange = record { grant = g; found = found } }
+
     seen : Kept
     seen = record (kept_at k (place_of g.entry.slot)) { fixed = Some found }
-
-    slot_is : place_of g.entry.slot ≡ place_of (row_of k h).slot
-    slot_is = ap (λ (q : Grant). place_of q.entry.slot) (tells.in_row g pending)
 
     inside_words : place_of g.entry.slot < length k.words
     inside_words = subst (λ (n : ℕ). place_of g.entry.slot < n) (sym kept.long.0) (tells.of_slot g pending).0.0

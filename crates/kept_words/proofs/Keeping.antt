@@ -16,6 +16,7 @@ use Rattle.word_rule.specs.declared.view.Fate.{Fate}
 use Rattle.word_rule.specs.declared.view.Fate.TheVariants.{Lost as LostFate}
 use Rattle.word_rule.specs.declared.view.KeeperView.{KeeperView}
 use Rattle.word_rule.specs.declared.view.Kept.{Kept}
+use Rattle.word_rule.specs.declared.view.Loss.{Loss}
 use Rattle.word_rule.specs.declared.view.Row.{Row}
 use Rattle.word_rule.specs.declared.view.Settled.{Settled}
 use Rattle.word_rule.specs.Allowed.{IsLost, IsOf, IsSlot}
@@ -42,7 +43,7 @@ use Rattle.hart_trails.specs.Trails.{is_granting}
 use Rattle.word_holds.specs.Shared.{IsOfState}
 use Rattle.kept_words.specs.Handed.{IsIssued, event_numbers, own_numbers}
 use Rattle.kept_words.specs.Keeping.{AlikeKept, AnsweredKept, AwaitedIsAlike, IsAlike, QuietKept}
-use Rattle.kept_words.specs.Kept.{AreKept, AreRows, HaveFates, IsFateEvent, LostHaveSeen}
+use Rattle.kept_words.specs.Kept.{AreKept, AreRows, HaveFates, IsFateEvent, LostHaveSeen, ShowsLoss}
 use Rattle.kept_words.specs.Staying.{IsGrantEvent, SameGrants, leaves_memory, number_by, number_in}
 use Rattle.kept_words.proofs.Handed.{answered_stays, handed_stays, issued_stays}
 use Rattle.kept_words.proofs.Seen.{seen_on}
@@ -95,8 +96,8 @@ SettlesNone more = (n : ℕ) (f : Fate) (e : Event) → Contains more e → IsFa
 
 -- the fates stay over a longer journal that settles none
 pub fates_on : (k l : KeeperView) (more : List Event) → l.events ≡ k.events ++ more → SettlesNone more → ((m : ℕ) → (row_of l m).pending ≡ (row_of k m).pending)
-    → ((m : ℕ) → (row_of l m).settled ≡ (row_of k m).settled) → HaveFates k → HaveFates l
-fates_on k l more longer none pending settled fates = record {
+    → ((m : ℕ) → (row_of l m).settled ≡ (row_of k m).settled) → l.losses ≡ k.losses → HaveFates k → HaveFates l
+fates_on k l more longer none pending settled losses fates = record {
   entered = λ m g low is. subst (λ (es : List Event). IsGrantEvent es m g) (sym longer)
       (later_event k.events more m g (fates.entered m g low (was_grant (row_of k m) (row_of l m) (pending m) (settled m) g is)));
   fated = λ m g f low there.
@@ -105,6 +106,7 @@ fates_on k l more longer none pending settled fates = record {
         x.0,
         subst (λ (es : List Event). Contains es x.0) (sym longer) (Contains-append_left k.events more x.0 x.1),
         subst (λ (n : ℕ). IsFateEvent n f x.0) (sym (same_number m g f low was)) x.2,
+        subst (λ (all : List Loss). ShowsLoss all m g x.0) (sym losses) x.3,
       );
   known = λ n f e there is. ⊎_elim
       (λ (old : Contains k.events e).
@@ -114,6 +116,7 @@ fates_on k l more longer none pending settled fates = record {
         x.2,
         subst (λ (all : List Settled). Contains all (record { grant = x.1; fate = f })) (sym (settled x.0)) x.3,
         same_number x.0 x.1 f x.2 x.3 ∙ x.4,
+        subst (λ (all : List Loss). ShowsLoss all x.0 x.1 e) (sym losses) x.5,
       ))
       (λ (new : Contains more e). absurd (none n f e new is))
       (Contains-append_cases k.events more e (subst (λ (es : List Event). Contains es e) longer there));
@@ -124,9 +127,9 @@ fates_on k l more longer none pending settled fates = record {
 
 -- what rows say stays over a longer journal, with the same grants and words
 pub rows_on : (k l : KeeperView) (more : List Event) → l.events ≡ k.events ++ more → SettlesNone more → ((d : ℕ) → kept_at l d ≡ kept_at k d)
-    → ((m : ℕ) → (row_of l m).pending ≡ (row_of k m).pending) → ((m : ℕ) → (row_of l m).settled ≡ (row_of k m).settled) → AreRows k → AreRows l
-rows_on k l more longer none words pending settled rows = record {
-  fates = fates_on k l more longer none pending settled rows.fates;
+    → ((m : ℕ) → (row_of l m).pending ≡ (row_of k m).pending) → ((m : ℕ) → (row_of l m).settled ≡ (row_of k m).settled) → l.losses ≡ k.losses → AreRows k → AreRows l
+rows_on k l more longer none words pending settled losses rows = record {
+  fates = fates_on k l more longer none pending settled losses rows.fates;
   since = λ d slot.
       let was : (kept_at k d).since ≤ length k.events = rows.since d (subst (λ (y : Kept). IsSlot (λ _. y) d) (words d) slot) in
       let same : (kept_at l d).since ≡ (kept_at k d).since = ap (λ (y : Kept). y.since) (words d) in
@@ -214,7 +217,7 @@ alike_kept w begun k l is kept = record {
       (record { role = λ a word. refl; word = λ a word roles. refl; images = refl; grants = refl }) (alike_grants k l is) (λ m g low stands. refl) kept.words);
   generation = is.generation ∙ kept.generation ∙ ap (λ (es : List Event). (after es).generation) (sym is.events);
   granted = λ m g low stands. subst (λ (es : List Event). IsGrantEvent es m g) (sym is.events) (kept.granted m g low (stands_back k l (alike_grants k l is) m g stands));
-  rows = rows_on k l [] (is.events ∙ sym (append-nil k.events)) (λ n f e there settles. none_in e there) is.words is.pending is.settled kept.rows;
+  rows = rows_on k l [] (is.events ∙ sym (append-nil k.events)) (λ n f e there settles. none_in e there) is.words is.pending is.settled is.losses kept.rows;
   seen = subst (λ (es : List Event). LostHaveSeen (after es) l) (sym is.events) (seen_on (after k.events) (after k.events) k l refl refl is.words is.settled kept.seen);
   issued = λ h e low there. subst (λ (es : List Event). IsIssued w es h e) (sym is.events) (kept.issued h e low (subst (λ (es : List Entry). Contains es e) (is.issued h) there));
   handed = λ h low. ap event_numbers (is.issued h) ∙ kept.handed h low
@@ -231,6 +234,7 @@ awaited_is_alike k h long low = record {
   issued = λ m. row_field (λ (y : Row). y.issued) quiet h since_row low_row (ap (λ (y : Row). y.issued) (map_row k.rows h)) m ∙ ap (λ (y : Row). y.issued) (sym (map_row k.rows m));
   pending = λ m. row_field (λ (y : Row). y.pending) quiet h since_row low_row (ap (λ (y : Row). y.pending) (map_row k.rows h)) m ∙ ap (λ (y : Row). y.pending) (sym (map_row k.rows m));
   settled = λ m. row_field (λ (y : Row). y.settled) quiet h since_row low_row (ap (λ (y : Row). y.settled) (map_row k.rows h)) m ∙ ap (λ (y : Row). y.settled) (sym (map_row k.rows m));
+  losses = refl;
 }
   where
     quiet : KeeperView
@@ -344,7 +348,7 @@ quiet_kept w begun k h e entry kept own_low own leaves may is = record {
       (events_stay (after k.events) e leaves) same (λ m g few stands. later_number k.events (e ∷ []) m g (kept.granted m g few stands)) kept.words);
   generation = kept.generation ∙ sym (same_generation (after k.events) e leaves) ∙ ap (λ (s : State). s.generation) (sym (after_push k.events e));
   granted = λ m g few stands. later_event k.events (e ∷ []) m g (kept.granted m g few (stands_back k (handed_over h entry (counted e k)) same m g stands));
-  rows = rows_on k (handed_over h entry (counted e k)) (e ∷ []) refl (settles_none e (quiet_event e leaves)) (λ d. refl) same.pending same.settled kept.rows;
+  rows = rows_on k (handed_over h entry (counted e k)) (e ∷ []) refl (settles_none e (quiet_event e leaves)) (λ d. refl) same.pending same.settled refl kept.rows;
   seen = subst (λ (s : State). LostHaveSeen s (handed_over h entry (counted e k))) (sym (after_push k.events e))
       (seen_on (after k.events) (step (after k.events) e) k (handed_over h entry (counted e k)) (events_stay (after k.events) e leaves).images (events_stay (after k.events) e leaves).grants
       (λ d. refl) same.settled kept.seen);
@@ -378,7 +382,7 @@ answered_kept w begun k h entry kept own_low marks is = record {
       (record { role = λ a word. refl; word = λ a word roles. refl; images = refl; grants = refl }) same (λ m g few stands. refl) kept.words;
   generation = kept.generation;
   granted = λ m g few stands. kept.granted m g few (stands_back k (handed_over h entry k) same m g stands);
-  rows = rows_on k (handed_over h entry k) [] (sym (append-nil k.events)) (λ n f e there settles. none_in e there) (λ d. refl) same.pending same.settled kept.rows;
+  rows = rows_on k (handed_over h entry k) [] (sym (append-nil k.events)) (λ n f e there settles. none_in e there) (λ d. refl) same.pending same.settled refl kept.rows;
   seen = seen_on (after k.events) (after k.events) k (handed_over h entry k) refl refl (λ d. refl) same.settled kept.seen;
   issued = λ m x few there. ⊎_elim
       (λ (old : Contains (row_of k m).issued x). kept.issued m x few old)

@@ -41,8 +41,8 @@ use Rattle.kept_words.proofs.Settling.{StateLaws, loaded, place_back, same_slot}
 won_event : (n : ℕ) (e : Event) → IsFateEvent n Won e → (journal : List Event) → Contains journal e → Contains journal (events.Bound n)
 won_event n e IsFateEvent.as_won journal there = there
 
-lost_event : (n : ℕ) (e : Event) → IsFateEvent n FateLost e → (journal : List Event) → Contains journal e → (saw : ℕ) × Contains journal (events.Lost n saw)
-lost_event n e (IsFateEvent.as_lost saw) journal there = (saw, there)
+lost_event : (n : ℕ) (e : Event) → IsFateEvent n FateLost e → (saw : ℕ) × (e ≡ events.Lost n saw)
+lost_event n e (IsFateEvent.as_lost saw) = (saw, refl)
 
 -- numbers rise, and so an exchange of a grant is the only one
 rising_one : (xs : List Exchange) → Rising xs → (x y : Exchange) → Contains xs x → Contains xs y → x.grant ≡ y.grant → x ≡ y
@@ -88,16 +88,22 @@ trails_are_true w begun k h state j kept low settled all = record {
         absurd (its.1 (sym (ap (λ (y : Exchange). y.found) same) ∙ found))
 
     by_lost : (x : Exchange) → Contains (exchanges_of j.trail) x → x.found ≢ x.grant.lazy → (f : Fate) → Contains (row_of k h).settled (record { grant = x.grant; fate = f })
-        → (saw : ℕ) × Contains k.events (events.Lost (number_in k.events h x.grant) saw)
+        → Contains k.events (events.Lost (number_in k.events h x.grant) x.found)
     by_lost x there found Won known =
         let same : x ≡ record { grant = x.grant; found = x.grant.lazy } = rising_one (exchanges_of j.trail) all.rising x (record { grant = x.grant; found = x.grant.lazy }) there (all.won x.grant known) refl in
         absurd (found (ap (λ (y : Exchange). y.found) same))
-    by_lost x there found FateLost known = let event = kept.rows.fates.fated h x.grant FateLost low known in lost_event (number_in k.events h x.grant) event.0 event.2 k.events event.1
+    by_lost x there found FateLost known =
+        let event = kept.rows.fates.fated h x.grant FateLost low known in
+        let saw = lost_event (number_in k.events h x.grant) event.0 event.2 in
+        let its : Exchange = record { grant = x.grant; found = saw.0 } in
+        let made : Contains (exchanges_of j.trail) its = all.found (record { hart = h; exchange = its }) (event.3 (number_in k.events h x.grant) saw.0 saw.1) refl in
+        let same : x ≡ its = rising_one (exchanges_of j.trail) all.rising x its there made refl in
+        subst (λ (n : ℕ). Contains k.events (events.Lost (number_in k.events h x.grant) n)) (sym (ap (λ (y : Exchange). y.found) same)) (subst (Contains k.events) saw.1 event.1)
 
 pub fates_are_exchanges : FatesAreExchanges
 fates_are_exchanges w begun k n f e kept there is =
     let x = kept.rows.fates.known n f e there is in
-    record { hart = x.0; grant = x.1; low = x.2; event = kept.rows.fates.entered x.0 x.1 x.2 (inr (f, x.3)); number_is = x.4; fate = x.3 }
+    record { hart = x.0; grant = x.1; low = x.2; event = kept.rows.fates.entered x.0 x.1 x.2 (inr (f, x.3)); number_is = x.4; fate = x.3; shown = x.5 }
 
 -- ---- grants
 

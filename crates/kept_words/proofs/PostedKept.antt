@@ -106,7 +106,7 @@ module _ (w : Setting) (begun : List Event) (k : KeeperView) (g : NewGrant) (x :
   }
 
   now_rows : AreRows (counted (event_of g) k)
-  now_rows = rows_on k (counted (event_of g) k) (event_of g ∷ []) refl (settles_none (event_of g) refl) (λ d. refl) (λ i. refl) (λ i. refl) kept.rows
+  now_rows = rows_on k (counted (event_of g) k) (event_of g ∷ []) refl (settles_none (event_of g) refl) (λ d. refl) (λ i. refl) (λ i. refl) refl kept.rows
 
   pub posted_kept : AreKept w begun (posted g.hart x (counted (event_of g) k))
   posted_kept = record {
@@ -134,7 +134,7 @@ module _ (w : Setting) (begun : List Event) (k : KeeperView) (g : NewGrant) (x :
             (subst (λ (all : List Settled). Contains all (record { grant = p; fate = f })) (settled_same (counted e k) g.hart x kept.long low m) there);
         known = λ n f y there is.
             let known = now_rows.fates.known n f y there is in
-            (known.0, known.1, known.2, subst (λ (all : List Settled). Contains all (record { grant = known.1; fate = f })) (sym (settled_same (counted e k) g.hart x kept.long low known.0)) known.3, known.4);
+            (known.0, known.1, known.2, subst (λ (all : List Settled). Contains all (record { grant = known.1; fate = f })) (sym (settled_same (counted e k) g.hart x kept.long low known.0)) known.3, known.4, known.5);
       };
       pending = λ m p few waits. ⊎_elim
           (λ (old : (row_of k m).pending ≡ Some p). kept.rows.pending m p few old)

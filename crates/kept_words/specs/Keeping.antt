@@ -41,6 +41,7 @@ pub record IsAlike (k l : KeeperView) : Type 0 where
   pub issued : (m : ℕ) → (row_of l m).issued ≡ (row_of k m).issued
   pub pending : (m : ℕ) → (row_of l m).pending ≡ (row_of k m).pending
   pub settled : (m : ℕ) → (row_of l m).settled ≡ (row_of k m).settled
+  pub losses : l.losses ≡ k.losses
 
 abbrev pub AlikeKept : Type 0
 AlikeKept = (w : Setting) (begun : List Event) (k l : KeeperView) → IsAlike k l → AreKept w begun k → AreKept w begun l

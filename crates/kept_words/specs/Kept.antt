@@ -8,6 +8,7 @@ use Rattle.word_rule.specs.declared.entry.Grant.{Grant}
 use Rattle.word_rule.specs.declared.view.Fate.{Fate}
 use Rattle.word_rule.specs.declared.view.Fate.TheVariants.{Lost as LostFate, Won}
 use Rattle.word_rule.specs.declared.view.KeeperView.{KeeperView}
+use Rattle.word_rule.specs.declared.view.Loss.{Loss}
 use Rattle.word_rule.specs.Allowed.{IsLost, IsOf, IsSlot}
 use Rattle.word_rule.specs.Layout.{harts_at_most, place_of}
 use Rattle.word_rule.specs.Slots.{IsGrant}
@@ -29,13 +30,19 @@ pub data IsFateEvent (n : ℕ) : Fate → Event → Type 0 where
   as_won : IsFateEvent n Won (Bound n)
   as_lost : (saw : ℕ) → IsFateEvent n LostFate (Lost n saw)
 
--- each grant of a row is an event, and the fates of those that are known are the events that settle grants
+-- an event that shows a word shows the one that was seen of this lost grant's slot
+abbrev pub ShowsLoss : List Loss → ℕ → Grant → Event → Type 0
+ShowsLoss losses m g e = (n saw : ℕ) → e ≡ Lost n saw → Contains losses (record { hart = m; exchange = record { grant = g; found = saw } })
+
+-- each grant of a row is an event, and the fates of those that are known are the events that settle grants, each of
+-- which shows what was seen
 pub record HaveFates (k : KeeperView) : Type 0 where
   pub entered : (m : ℕ) (g : Grant) → m < harts_at_most → IsGrant (row_of k m) g → IsGrantEvent k.events m g
   pub fated : (m : ℕ) (g : Grant) (f : Fate) → m < harts_at_most → Contains (row_of k m).settled (record { grant = g; fate = f })
-      → (e : Event) × Contains k.events e × IsFateEvent (number_in k.events m g) f e
+      → (e : Event) × Contains k.events e × IsFateEvent (number_in k.events m g) f e × ShowsLoss k.losses m g e
   pub known : (n : ℕ) (f : Fate) (e : Event) → Contains k.events e → IsFateEvent n f e
       → (m : ℕ) × (g : Grant) × (m < harts_at_most) × Contains (row_of k m).settled (record { grant = g; fate = f }) × (number_in k.events m g ≡ n)
+      × ShowsLoss k.losses m g e
 
 -- of each hart's grants: none is newer than the journal, nor is a slot's role; the slot of one whose fate isn't known is there; and of one that
 -- is known as lost, while its slot is there, the word that was seen in the slot is the one that its event shows

@@ -19,7 +19,7 @@ use Rattle.history_state.specs.Links.{finis_of}
 use Rattle.history_state.specs.Objects.{mapped, serial_of}
 use Rattle.history_state.specs.Setting.{Setting, are_finals}
 use Rattle.kept_words.specs.Handed.{IsIssued, event_numbers, own_numbers}
-use Rattle.kept_words.specs.Kept.{AreKept, IsFateEvent}
+use Rattle.kept_words.specs.Kept.{AreKept, IsFateEvent, ShowsLoss}
 use Rattle.kept_words.specs.Staying.{IsGrantEvent, number_in}
 
 -- what became of each grant is known, and so is what each slot holds
@@ -37,27 +37,28 @@ OverIsWhole = (w : Setting) (begun : List Event) (k : KeeperView) → AcceptsOnl
 -- ---- a hart whose seat was joined once it had taken all
 
 -- each entry of its trail is true of the journal, and those of events are its events since the seats were made. Its exchanges that won are of its
--- grants that were bound, and its others of those that were lost
+-- grants that were bound, and its others of those that were lost, whose events show the words that they found
 pub record TrailIsTrue (w : Setting) (begun journal : List Event) (h : ℕ) (j : HartView) : Type 0 where
   pub issued : (e : Entry) → Contains (entries_of j.trail) e → IsIssued w journal h e
   pub events : event_numbers (entries_of j.trail) ≡ own_numbers h (length begun + 1) (drop (length begun) journal)
   pub granted : (x : Exchange) → Contains (exchanges_of j.trail) x → IsGrantEvent journal h x.grant
   pub won : (x : Exchange) → Contains (exchanges_of j.trail) x → x.found ≡ x.grant.lazy → Contains journal (Bound (number_in journal h x.grant))
-  pub lost : (x : Exchange) → Contains (exchanges_of j.trail) x → x.found ≢ x.grant.lazy → (saw : ℕ) × Contains journal (Lost (number_in journal h x.grant) saw)
+  pub lost : (x : Exchange) → Contains (exchanges_of j.trail) x → x.found ≢ x.grant.lazy → Contains journal (Lost (number_in journal h x.grant) x.found)
 
 abbrev pub TrailsAreTrue : Type 0
 TrailsAreTrue = (w : Setting) (begun : List Event) (k : KeeperView) (h state : ℕ) (j : HartView) → AreKept w begun k → h < harts_at_most → (row_of k h).pending ≡ None
-    → HasTakenAll (row_of k h) state j → TrailIsTrue w begun k.events h j
+    → HasTakenAll k h state j → TrailIsTrue w begun k.events h j
 
--- each grant that was bound is one that a hart's exchange won, and each that was lost one that it lost
-pub record IsExchanged (journal : List Event) (k : KeeperView) (n : ℕ) (f : Fate) : Type 0 where
+-- each grant that was bound is one that a hart's exchange won, and each that was lost one that it lost, with the word that was seen
+pub record IsExchanged (journal : List Event) (k : KeeperView) (n : ℕ) (f : Fate) (e : Event) : Type 0 where
   pub hart : ℕ
   pub grant : Grant
   pub low : hart < harts_at_most
   pub event : IsGrantEvent journal hart grant
   pub number_is : number_in journal hart grant ≡ n
   pub fate : Contains (row_of k hart).settled (record { grant = grant; fate = f })
+  pub shown : ShowsLoss k.losses hart grant e
 
 abbrev pub FatesAreExchanges : Type 0
 FatesAreExchanges = (w : Setting) (begun : List Event) (k : KeeperView) (n : ℕ) (f : Fate) (e : Event) → AreKept w begun k → Contains k.events e → IsFateEvent n f e
-    → IsExchanged k.events k n f
+    → IsExchanged k.events k n f e

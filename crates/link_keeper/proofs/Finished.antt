@@ -216,7 +216,7 @@ module _ (over_is : OverIsWhole) (are_true : TrailsAreTrue) (are_exchanges : Fat
     low_seat : (h : ℕ) (j : HartView) → slice_get seats h ≡ Some j → h < w.machine.harts
     low_seat h j there = subst (λ (n : ℕ). h < n) all (slice_get_within seats h j there)
 
-    took : (h : ℕ) (j : HartView) → slice_get seats h ≡ Some j → (state : ℕ) × HasTakenAll (row_of k2 h) state (knows k.events j)
+    took : (h : ℕ) (j : HartView) → slice_get seats h ≡ Some j → (state : ℕ) × HasTakenAll k2 h state (knows k.events j)
     took h j there = taken h (knows k.events j) (low_seat h j there) (ended_at k2 settled.joined h j there)
 
     closed : (h : ℕ) (j : HartView) → slice_get seats h ≡ Some j → TrailIsClosed w begun k2.events h j

@@ -33,7 +33,7 @@ pub record SettlesEnded (asked : ℕ) (k l : KeeperView) : Type 0 where
 
 -- each of the first harts has taken all that was issued to it
 abbrev pub HaveTakenAll : ℕ → KeeperView → Type 0
-HaveTakenAll harts k = (m : ℕ) (j : HartView) → m < harts → HasEnded k m j → (state : ℕ) × HasTakenAll (row_of k m) state j
+HaveTakenAll harts k = (m : ℕ) (j : HartView) → m < harts → HasEnded k m j → (state : ℕ) × HasTakenAll k m state j
 
 -- and what each slot holds is known
 abbrev pub AreDecided : KeeperView → Type 0

@@ -133,7 +133,7 @@ fn look_at<J: Naming>(memory: &Memory<J>, keeper: &mut KeeperSeat<J>, id: HartId
     requires low { id < 16 }
     requires ended { (j : HartView) × HasEnded keeper.old id j }
     ensures same { keeper.new ≡ keeper.old }
-    ensures taken { (j : HartView) → HasEnded keeper.old id j → (state : ℕ) × HasTakenAll (row_of keeper.old id) state j }
+    ensures taken { (j : HartView) → HasEnded keeper.old id j → (state : ℕ) × HasTakenAll keeper.old id state j }
     ensures decided { AreDecided keeper.old }
 {
     let _ = calling(memory, keeper, id);

@@ -7,15 +7,17 @@ use Rattle.word_rule.specs.declared.entry.RowWord.TheVariants.{Slot, Generation}
 use Rattle.word_rule.specs.declared.kind.HartKind.TheVariants as harts
 use Rattle.word_rule.specs.declared.kind.KeeperKind.TheVariants as keepers
 use Rattle.word_rule.specs.declared.view.HartView.{HartView}
-use Rattle.word_rule.specs.declared.view.Fate.TheVariants.{Lost as FateLost}
+use Rattle.word_rule.specs.declared.view.Fate.{Fate}
+use Rattle.word_rule.specs.declared.view.Fate.TheVariants.{Lost as FateLost, Won as FateWon}
 use Rattle.word_rule.specs.declared.view.KeeperView.{KeeperView}
+use Rattle.word_rule.specs.declared.view.Kept.{Kept}
 use Rattle.word_rule.specs.declared.view.Offer.{Offer as ReadOffer}
 use Rattle.word_rule.specs.declared.view.Row.{Row}
-use Rattle.word_rule.specs.Allowed.{IsOf, IsSlot}
+use Rattle.word_rule.specs.Allowed.{IsLost, IsOf}
 use Rattle.word_rule.specs.HartSteps.{HartReady, entered, finished, hart_after, with_lane_of}
-use Rattle.word_rule.specs.KeeperSteps.{KeeperLearns, TellsAsk, TellsSlot, asked, asked_if, fixed_by, fixed_if, heeding, keeper_after, settled_as, with_kept, with_row}
+use Rattle.word_rule.specs.KeeperSteps.{KeeperReady, TellsAsk, TellsSlot, asked, asked_if, fixed_by, fixed_if, heeding, keeper_after, losing, settled_as, with_kept, with_row}
 use Rattle.word_rule.specs.Layout.{address_of, doublewords, IsDoubleword, place_of}
-use Rattle.word_rule.specs.Views.{IsLong, kept_at, offered, row_of, with_offered}
+use Rattle.word_rule.specs.Views.{IsLong, grant_in, kept_at, offered, row_of, with_offered}
 use Rattle.word_rule.specs.declared.view.TrailItem.TheVariants.{Done}
 use Rattle.word_steps.specs.Views.{IsIdle}
 use Rattle.word_steps.specs.Views.{IsResting}
@@ -25,7 +27,7 @@ use Rattle.slot_bind.specs.declared.slot.Asked.TheVariants.{Open, Won as SaysWon
 use Rattle.slot_bind.specs.declared.slot.Bound.{Bound}
 use Rattle.slot_bind.specs.declared.slot.Bound.TheVariants.{Won, Lost}
 use Rattle.slot_bind.specs.Rows.{full_offer, offer_of, offer_or, with_offer}
-use Rattle.slot_bind.specs.Grants.{IsBound, IsOffered, Says, asked_row, asked_view, exchange_of, exchanged, fated_view, found_by, given_back, grant_read, is_won, seen_if, with_look}
+use Rattle.slot_bind.specs.Grants.{IsBound, IsOffered, Says, asked_row, asked_view, exchange_of, exchanged, fated_view, found_by, given_back, grant_read, is_won, with_look}
 use Rattle.slot_bind.proofs.Harts.{idle_heeded}
 
 -- ---- an exchange
@@ -92,8 +94,14 @@ gives_back h h' m n won b idle tried is =
 pub recalls : (k k' : KeeperView) (m n : ℕ) → IsResting k → k' ≡ keeper_after (keepers.Recall m Slot) k n → k' ≡ k
 recalls k k' m n r is = is ∙ heeds k r.note
 
-pub saws : (k k1 k' : KeeperView) (d n : ℕ) → k1 ≡ k → IsResting k → k' ≡ keeper_after (keepers.Saw d) k1 n → k' ≡ with_look d n k
-saws k k1 k' d n same r is = is ∙ (ap (λ k. with_kept d (fixed_by n (kept_at k d)) (heeding k)) same ∙ ap (λ q. with_kept d (fixed_by n (kept_at k d)) q) (heeds k r.note))
+pub saws : (k k1 k' : KeeperView) (m d n : ℕ) → k1 ≡ k → IsResting k → k' ≡ keeper_after (keepers.Saw d m) k1 n → k' ≡ with_look m d n k
+saws k k1 k' m d n same r is =
+    is ∙ (ap (λ k. losing m (grant_in (row_of k m)) n (with_kept d (fixed_by n (kept_at k d)) (heeding k))) same
+    ∙ ap (λ q. losing m (grant_in (row_of k m)) n (with_kept d (fixed_by n (kept_at k d)) q)) (heeds k r.note))
+
+pub saw_ready : (k k1 : KeeperView) (m d : ℕ) → k1 ≡ k → m < 16 → IsLost (row_of k m) (grant_in (row_of k m)) → d ≡ place_of (row_of k m).slot
+    → IsOf (kept_at k) (place_of (row_of k m).slot) (grant_in (row_of k m)) → KeeperReady (keepers.Saw d m) k1
+saw_ready k k1 m d same low lost at of = subst (KeeperReady (keepers.Saw d m)) (sym same) (low, lost, subst (λ e. IsOf (kept_at k) e (grant_in (row_of k m))) (sym at) of)
 
 place_at : (d : ℕ) → place_of (address_of d) ≡ d
 unfolding place_of
@@ -114,39 +122,31 @@ asks k k' m n a r told is say = is ∙ (ap (λ k. with_row m (asked n (row_of k 
 pub lost_state : (n : ℕ) → (n % 8 ≡ 3) ⊎ (n % 8 ≡ 4) ⊎ (n % 8 ≡ 5) → n % 8 ≢ 3 → n % 8 ≢ 4 → n % 8 ≡ 5
 lost_state n all three four = ⊎_elim (λ (e : n % 8 ≡ 3). absurd (three e)) (λ h. ⊎_elim (λ (e : n % 8 ≡ 4). absurd (four e)) (λ (e : n % 8 ≡ 5). e) h) all
 
--- the slot in the row of a grant that was asked for
-row_slot : (n : ℕ) (r : Row) → (asked n r).slot ≡ r.slot
-row_slot n r = go (eqb (n % 8) 3) (eqb (n % 8) 4) (eqb (n % 8) 5)
+-- the grant in the row is the one that was asked for
+row_grant : (n : ℕ) (r : Row) → grant_in (asked n r) ≡ grant_in r
+row_grant n r = go (eqb (n % 8) 3) (eqb (n % 8) 4) (eqb (n % 8) 5)
   where
-    settles : (f : Rattle.word_rule.specs.declared.view.Fate.Fate) (p : Option Grant) → (Rattle.word_rule.specs.KeeperSteps.settled_as f p r).slot ≡ r.slot
+    settles : (f : Fate) (p : Option Grant) → grant_in (settled_as f p r) ≡ grant_in r
     settles f None = refl
     settles f (Some g) = refl
 
-    go : (a b c : Bool) → (asked_if a b c r).slot ≡ r.slot
+    go : (a b c : Bool) → grant_in (asked_if a b c r) ≡ grant_in r
     go true b c = refl
-    go false true c = settles Rattle.word_rule.specs.declared.view.Fate.TheVariants.Won r.pending
-    go false false true = settles Rattle.word_rule.specs.declared.view.Fate.TheVariants.Lost r.pending
+    go false true c = settles FateWon r.pending
+    go false false true = settles FateLost r.pending
     go false false false = refl
 
-same_slot : (k k1 : KeeperView) (m n : ℕ) → IsLong k → m < 16 → k1 ≡ keeper_after (keepers.Ask m) k n → (row_of k1 m).slot ≡ (row_of k m).slot
-same_slot k k1 m n long low is =
-    ap (λ k. (row_of k m).slot) is ∙ (ap (λ (r : Row). r.slot) (row_here (heeding k) m (asked n (row_of k m)) (subst (λ x. m < x) (sym long.1) low)) ∙ row_slot n (row_of k m))
+module _ (k k1 : KeeperView) (m n : ℕ) (long : IsLong k) (low : m < 16) (is : k1 ≡ keeper_after (keepers.Ask m) k n) where
+  row_asked : row_of k1 m ≡ asked n (row_of k m)
+  row_asked = ap (λ k. row_of k m) is ∙ row_here (heeding k) m (asked n (row_of k m)) (subst (λ x. m < x) (sym long.1) low)
 
-pub asked_slot : (k k1 : KeeperView) (m n : ℕ) (g : Grant) → IsLong k → m < 16 → k1 ≡ keeper_after (keepers.Ask m) k n → TellsAsk k m n → (row_of k m).pending ≡ Some g → (row_of k1 m).slot ≡ g.entry.slot
-asked_slot k k1 m n g long low is told pending = same_slot k k1 m n long low is ∙ sym (ap (λ (g : Grant). g.entry.slot) (told.in_row g pending))
+  grant_stays : grant_in (row_of k1 m) ≡ grant_in (row_of k m)
+  grant_stays = ap grant_in row_asked ∙ row_grant n (row_of k m)
 
 -- what is asked of the slot in it
 pub record AskSlot (k1 : KeeperView) (m : ℕ) : Type 0 where
-  pub slot : IsSlot (kept_at k1) (place_of (row_of k1 m).slot)
-  pub at : IsDoubleword (row_of k1 m).slot
-
-pub ask_slot : (k k1 : KeeperView) (m n : ℕ) → IsLong k → m < 16 → k1 ≡ keeper_after (keepers.Ask m) k n → TellsAsk k m n → (g : Grant) × ((row_of k m).pending ≡ Some g) → AskSlot k1 m
-ask_slot k k1 m n long low is told posted =
-    let of_slot : IsOf (kept_at k) (place_of posted.0.entry.slot) posted.0 = told.of_slot posted.0 posted.1 in
-    let same : (row_of k1 m).slot ≡ posted.0.entry.slot = asked_slot k k1 m n posted.0 long low is told posted.1 in record {
-      slot = subst (λ (f : ℕ → Rattle.word_rule.specs.declared.view.Kept.Kept). IsSlot f (place_of (row_of k1 m).slot)) (sym (ap kept_at is)) (subst (λ s. IsSlot (kept_at k) (place_of s)) (sym same) of_slot.0);
-      at = subst IsDoubleword (sym same) (slot_at k (place_of posted.0.entry.slot) posted.0 of_slot);
-    }
+  pub lost : IsLost (row_of k1 m) (grant_in (row_of k1 m))
+  pub of : IsOf (kept_at k1) (place_of (row_of k1 m).slot) (grant_in (row_of k1 m))
 
 -- ---- the slot of a lost grant was looked at
 
@@ -154,17 +154,27 @@ ask_slot k k1 m n long low is told posted =
 has_lost : (r : Row) (g : Grant) → r.pending ≡ Some g → Contains (asked_row (SaysLost 0) r).settled (record { grant = g; fate = FateLost })
 has_lost r g pending = subst (λ p. Contains (settled_as FateLost p r).settled (record { grant = g; fate = FateLost })) (sym pending) (Contains-push r.settled (record { grant = g; fate = FateLost }))
 
+pub ask_slot : (k k1 : KeeperView) (m n : ℕ) → IsLong k → m < 16 → k1 ≡ keeper_after (keepers.Ask m) k n → TellsAsk k m n → n % 8 ≡ 5 → (g : Grant) × ((row_of k m).pending ≡ Some g) → AskSlot k1 m
+ask_slot k k1 m n long low is told five posted =
+    let g : Grant = posted.0 in
+    let pending : (row_of k m).pending ≡ Some posted.0 = posted.1 in
+    let same : posted.0 ≡ grant_in (row_of k1 m) = told.in_row posted.0 posted.1 ∙ sym (grant_stays k k1 m n long low is) in
+    let row : row_of k1 m ≡ asked_row (SaysLost 0) (row_of k m) = row_asked k k1 m n long low is ∙ says n told.state (SaysLost 0) five (row_of k m) in record {
+      lost = subst (IsLost (row_of k1 m)) same (subst (λ (r : Row). IsLost r posted.0) (sym row) (has_lost (row_of k m) posted.0 posted.1));
+      of = subst (λ (p : (ℕ → Kept) × Grant). IsOf p.0 (place_of p.1.entry.slot) p.1) (λ i. (ap kept_at (sym is) i, same i)) (told.of_slot posted.0 posted.1);
+    }
+
 module _ (k k1 : KeeperView) (m n word : ℕ) (g : Grant) (r : IsResting k) (long : IsLong k) (low : m < 16) (told : TellsAsk k m n) (is : k1 ≡ keeper_after (keepers.Ask m) k n) (lost : n % 8 ≡ 5)
     (pending : (row_of k m).pending ≡ Some g) (tells : TellsSlot k1 (place_of (row_of k1 m).slot) word) where
-  at : (row_of k1 m).slot ≡ g.entry.slot
-  at = asked_slot k k1 m n g long low is told pending
+  at : grant_in (row_of k1 m) ≡ grant_in (row_of k m)
+  at = grant_stays k k1 m n long low is
 
   fated : k1 ≡ fated_view m (SaysLost word) k
   fated = asks k k1 m n (SaysLost word) r told is lost
 
   -- what is told of the slot
   pub fated_tells : TellsSlot (fated_view m (SaysLost word) k) (place_of g.entry.slot) word
-  fated_tells = subst (λ (p : KeeperView × ℕ). TellsSlot p.0 (place_of p.1) word) (λ i. (fated i, at i)) tells
+  fated_tells = subst (λ (p : KeeperView × Grant). TellsSlot p.0 (place_of p.1.entry.slot) word) (λ i. (fated i, (at ∙ sym (told.in_row g pending)) i)) tells
 
   row_now : row_of (fated_view m (SaysLost word) k) m ≡ asked_row (SaysLost word) (row_of k m)
   row_now = row_here k m (asked_row (SaysLost word) (row_of k m)) (subst (λ x. m < x) (sym long.1) low)
@@ -175,8 +185,8 @@ module _ (k k1 : KeeperView) (m n word : ℕ) (g : Grant) (r : IsResting k) (lon
   seen : fixed_by word (kept_at k (place_of g.entry.slot)) ≡ record (kept_at k (place_of g.entry.slot)) { fixed = Some word }
   seen = ap (λ b. fixed_if word b (kept_at k (place_of g.entry.slot))) (ne_eqb word (kept_at k (place_of g.entry.slot)).lazy not_lazy)
 
-  pub lost_view : (k2 : KeeperView) → k2 ≡ with_look (place_of (row_of k1 m).slot) word k1 → k2 ≡ asked_view m (SaysLost word) k
+  pub lost_view : (k2 : KeeperView) → k2 ≡ with_look m (place_of (row_of k1 m).slot) word k1 → k2 ≡ asked_view m (SaysLost word) k
   lost_view k2 saw =
-      saw ∙ ((λ i. with_look (place_of (at i)) word (fated i))
-      ∙ (ap (λ x. with_kept (place_of g.entry.slot) x (fated_view m (SaysLost word) k)) seen
-      ∙ ap (λ (s : ℕ). seen_if (place_of s) (SaysLost word) (fated_view m (SaysLost word) k)) (ap (λ (g : Grant). g.entry.slot) (told.in_row g pending))))
+      saw ∙ ((λ i. losing m (at i) word (with_kept (place_of (at i).entry.slot) (fixed_by word (kept_at (fated i) (place_of (at i).entry.slot))) (fated i)))
+      ∙ ap (λ x. losing m (grant_in (row_of k m)) word (with_kept (place_of (row_of k m).slot) x (fated_view m (SaysLost word) k)))
+      (subst (λ (q : Grant). fixed_by word (kept_at k (place_of q.entry.slot)) ≡ record (kept_at k (place_of q.entry.slot)) { fixed = Some word }) (told.in_row g pending) seen))

@@ -11,9 +11,9 @@ use Rattle.word_rule.specs.declared.view.Row.{Row}
 use Rattle.word_rule.specs.declared.view.TrailItem.TheVariants.{Done, Exchanged}
 use Rattle.word_rule.specs.Allowed.{IsPostable}
 use Rattle.word_rule.specs.HartSteps.{entered, finished, or_zero, with_lane_of}
-use Rattle.word_rule.specs.KeeperSteps.{TellsSlot, fixed_by, settled_as, with_kept, with_row}
+use Rattle.word_rule.specs.KeeperSteps.{TellsSlot, fixed_by, losing, settled_as, with_kept, with_row}
 use Rattle.word_rule.specs.Layout.{place_of}
-use Rattle.word_rule.specs.Views.{kept_at, row_of}
+use Rattle.word_rule.specs.Views.{grant_in, kept_at, row_of}
 use Rattle.slot_bind.specs.Rows.{IsWaiting, full_offer, offer_of}
 use Rattle.slot_bind.specs.declared.slot.Asked.{Asked}
 use Rattle.slot_bind.specs.declared.slot.Asked.TheVariants.{Open, Won as SaysWon, Lost as SaysLost}
@@ -117,18 +117,18 @@ asked_row (SaysLost saw) r = settled_as FateLost r.pending r
 abbrev pub fated_view : ℕ → Asked → KeeperView → KeeperView
 fated_view m answer k = with_row m (asked_row answer (row_of k m)) k
 
--- a slot was looked at
-abbrev pub with_look : ℕ → ℕ → KeeperView → KeeperView
-with_look d word k = with_kept d (fixed_by word (kept_at k d)) k
+-- a slot was looked at, for the lost grant in a hart's row
+abbrev pub with_look : ℕ → ℕ → ℕ → KeeperView → KeeperView
+with_look m d word k = losing m (grant_in (row_of k m)) word (with_kept d (fixed_by word (kept_at k d)) k)
 
--- the word of the slot of a lost grant stays
-abbrev pub seen_if : ℕ → Asked → KeeperView → KeeperView
-seen_if d (SaysLost word) k = with_kept d (record (kept_at k d) { fixed = Some word }) k
-seen_if d _ k = k
+-- the word of the slot of a lost grant stays, and is what its exchange found
+abbrev pub seen_if : ℕ → Grant → Asked → KeeperView → KeeperView
+seen_if m g (SaysLost word) k = let d = place_of g.entry.slot in losing m g word (with_kept d (record (kept_at k d) { fixed = Some word }) k)
+seen_if m g _ k = k
 
 -- the keeper's view after it
 abbrev pub asked_view : ℕ → Asked → KeeperView → KeeperView
-asked_view m answer k = seen_if (place_of (row_of k m).slot) answer (fated_view m answer k)
+asked_view m answer k = seen_if m (grant_in (row_of k m)) answer (fated_view m answer k)
 
 -- of a lost grant the slot's word was found
 abbrev pub Saw : KeeperView → Grant → Asked → Type 0

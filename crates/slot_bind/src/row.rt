@@ -19,7 +19,7 @@ use word_steps::GENERATION;
 pub fn calling<J: Naming>(memory: &Memory<J>, keeper: &mut KeeperSeat<J>, hart: HartId) -> bool
     requires { hart < 16 }
     ensures known { keeper.new ≡ awaited_if hart result keeper.old }
-    ensures ended { (state : ℕ) × (result ≡ nat_le 8 state) × ((h : HartView) → HasEnded keeper.old hart h → HasTakenAll (row_of keeper.old hart) state h) }
+    ensures ended { (state : ℕ) × (result ≡ nat_le 8 state) × ((h : HartView) → HasEnded keeper.old hart h → HasTakenAll keeper.old hart state h) }
     ensures slots { (d : ℕ) → IsSlot (kept_at keeper.old) d → IsDecided (kept_at keeper.old) (row_of keeper.old) d }
     ensures long { IsLong keeper.old }
 {
@@ -30,7 +30,7 @@ pub fn calling<J: Naming>(memory: &Memory<J>, keeper: &mut KeeperSeat<J>, hart: 
 fn await_row<J: Naming>(memory: &Memory<J>, keeper: &mut KeeperSeat<J>, hart: u64) -> u64
     requires { hart < 16 }
     ensures known { keeper.new ≡ awaited_if hart (nat_le 8 result) keeper.old }
-    ensures ended { (h : HartView) → HasEnded keeper.old hart h → HasTakenAll (row_of keeper.old hart) result h }
+    ensures ended { (h : HartView) → HasEnded keeper.old hart h → HasTakenAll keeper.old hart result h }
     ensures slots { (d : ℕ) → IsSlot (kept_at keeper.old) d → IsDecided (kept_at keeper.old) (row_of keeper.old) d }
     ensures long { IsLong keeper.old }
 {

@@ -4,9 +4,9 @@ ghost use Rattle.std.specs.Prelude.{◌≡◌, ◌<◌, ◌%◌, ℕ, None, Some
 ghost use Rattle.rv_hart.specs.declared.bus.Item.{Item};
 ghost use Rattle.word_rule.specs.declared.entry.Grant.{Grant};
 ghost use Rattle.word_rule.specs.KeeperSteps.{TellsAsk, TellsSlot};
-ghost use Rattle.word_rule.specs.Views.{IsLong, kept_at, row_of};
-ghost use Rattle.word_rule.specs.Allowed.{IsSlot};
-ghost use Rattle.word_rule.specs.Layout.{IsDoubleword, place_of};
+ghost use Rattle.word_rule.specs.Views.{IsLong, grant_in, kept_at, row_of};
+ghost use Rattle.word_rule.specs.Allowed.{IsLost, IsOf};
+ghost use Rattle.word_rule.specs.Layout.{place_of};
 ghost use Rattle.word_access.specs.Accesses.{Calls};
 ghost use Rattle.slot_bind.specs.Grants.{IsBound, IsOffered, Saw, Says, asked_view, exchange_of, exchanged};
 ghost use Rattle.slot_bind.specs.Grants.{fated_view, given_back, grant_read, leads_to, with_look};
@@ -137,18 +137,18 @@ pub fn done<J: Naming>(
 }
 
 // Looks at the slot in the hart's row, and answers its word.
-#[tactic(auto, using(crate::proofs::Grants::recalls, crate::proofs::Grants::saws, crate::proofs::Grants::slot_at))]
+#[tactic(auto, using(crate::proofs::Grants::recalls, crate::proofs::Grants::saws, crate::proofs::Grants::saw_ready, crate::proofs::Grants::slot_at))]
 fn saw<J: Naming>(memory: &Memory<J>, keeper: &mut KeeperSeat<J>, hart: u64) -> u64
     requires low { hart < 16 }
-    requires slot { IsSlot (kept_at keeper.old) (place_of (row_of keeper.old hart).slot) }
-    requires at { IsDoubleword (row_of keeper.old hart).slot }
-    ensures keeper { keeper.new ≡ with_look (place_of (row_of keeper.old hart).slot) result keeper.old }
+    requires lost { IsLost (row_of keeper.old hart) (grant_in (row_of keeper.old hart)) }
+    requires of { IsOf (kept_at keeper.old) (place_of (row_of keeper.old hart).slot) (grant_in (row_of keeper.old hart)) }
+    ensures keeper { keeper.new ≡ with_look hart (place_of (row_of keeper.old hart).slot) result keeper.old }
     ensures saw { TellsSlot keeper.old (place_of (row_of keeper.old hart).slot) result }
 {
     let kind = KeeperKind::Recall(hart, RowWord::Slot);
     let slot = keeper.load_word(memory, row_word(hart, RowWord::Slot), kind);
     let at = place_at(slot);
-    keeper.load_word(memory, value_word(at), KeeperKind::Saw(at as u64))
+    keeper.load_word(memory, value_word(at), KeeperKind::Saw(at as u64, hart))
 }
 
 /// What the hart's row says of its last grant, whose fate the keeper doesn't know yet. Where it is lost,
@@ -167,7 +167,7 @@ pub fn ask<J: Naming>(memory: &Memory<J>, keeper: &mut KeeperSeat<J>, hart: Hart
     ask_row(memory, keeper, u64::from(hart.number()))
 }
 
-#[tactic(auto, using(crate::proofs::Grants::ask_slot, crate::proofs::Grants::asks, crate::proofs::Grants::lost_state, crate::proofs::Grants::lost_view, crate::proofs::Grants::fated_tells))]
+#[tactic(auto, using(crate::proofs::Grants::asks, crate::proofs::Grants::lost_state, crate::proofs::Grants::lost_view, crate::proofs::Grants::fated_tells))]
 fn ask_row<J: Naming>(memory: &Memory<J>, keeper: &mut KeeperSeat<J>, hart: u64) -> Asked
     requires low { hart < 16 }
     requires posted { (g : Grant) × ((row_of keeper.old hart).pending ≡ Some g) }

@@ -1,7 +1,8 @@
 //! The keeper's seat between its calls, and what it does with doublewords, events and harts.
 
-ghost use Rattle.std.specs.Prelude.{◌≡◌, ◌<◌, ◌+◌, ◌↔◌, IfErr, IfOk, IsTrue, length};
+ghost use Rattle.std.specs.Prelude.{◌≡◌, ◌<◌, ◌+◌, ◌↔◌, ℕ, IfErr, IfOk, IsTrue, Some, length};
 ghost use Rattle.ld_base.specs.declared.linking.Role.TheVariants.{Rw, Slot};
+ghost use Rattle.word_rule.specs.declared.view.Offer.{Offer};
 ghost use Rattle.word_rule.specs.Joining.{IsSettled};
 ghost use Rattle.word_rule.specs.KeeperSteps.{KeeperLearns, KeeperLeaves, KeeperReady, keeper_after, keeper_op, keeper_word};
 ghost use Rattle.word_rule.specs.Layout.{IsDoubleword, place_of, table_words};
@@ -103,7 +104,8 @@ pub fn join_hart<J: Naming>(memory: &Memory<J>, keeper: &mut KeeperSeat<J>, seat
     keeper.desk.join(memory, seat.into_hand());
 }
 
-/// Tells a hart of the keeper's events, and ties what it knows of its entries to what was issued to it.
+/// Tells a hart of the keeper's events, and ties what it knows of its entries to what was issued to it, and
+/// the lazy word that it has read of its row to the one that the keeper put there.
 /// The hart isn't calling, or has read its row in full. It has read no generation above the keeper's.
 pub fn tell<J: Naming>(memory: &Memory<J>, keeper: &mut KeeperSeat<J>, seat: &mut HartSeat<J>)
     requires { IsSettled seat.old.lane }
@@ -111,6 +113,7 @@ pub fn tell<J: Naming>(memory: &Memory<J>, keeper: &mut KeeperSeat<J>, seat: &mu
     ensures begun { BeginsWith keeper.old.events seat.old.heard }
     ensures keeper { keeper.new ≡ keeper.old }
     ensures issued { known_of seat.old.lane ≡ (row_of keeper.old seat.old.number).issued }
+    ensures lazy { (o : Offer) (x : ℕ) → seat.old.lane.offer ≡ Some o → o.lazy ≡ Some x → x ≡ (row_of keeper.old seat.old.number).lazy }
     ensures readings { NoneAbove keeper.old.generation (readings_of seat.old.trail) }
 {
     word_access::tell(memory, &mut keeper.desk, &mut seat.hand);

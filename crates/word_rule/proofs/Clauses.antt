@@ -137,6 +137,7 @@ module _ (word : ℕ → ℕ) (kept : KeeperView) (harts : ℕ → HartView) (p 
     seen = λ d x here e. ((p.slots.each_slot d here).fixed x e).0;
     known_won = λ m g few c. (p.slots.each_hart m few).won g c;
     known_lost = λ m g few c. (p.slots.each_hart m few).lost g c;
+    known_found = p.losses;
   }
 
   pub row_clauses : RowClauses word kept harts

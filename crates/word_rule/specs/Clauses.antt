@@ -11,6 +11,7 @@ use Rattle.word_rule.specs.declared.entry.RowWord.{RowWord}
 use Rattle.word_rule.specs.declared.entry.RowWord.TheVariants.{Number}
 use Rattle.word_rule.specs.declared.view.HartView.{HartView}
 use Rattle.word_rule.specs.declared.view.KeeperView.{KeeperView}
+use Rattle.word_rule.specs.declared.view.Loss.{Loss}
 use Rattle.word_rule.specs.declared.view.Slip.{Slip}
 use Rattle.word_rule.specs.declared.view.View.{View}
 use Rattle.word_rule.specs.declared.view.View.TheVariants.{Keeper, Hart, Note}
@@ -86,6 +87,7 @@ pub record SlotClauses (word : ℕ → ℕ) (kept : KeeperView) (hart : ℕ → 
   -- what the keeper knows of a grant is what its exchange found
   pub known_won : (m : ℕ) (g : Grant) → m < harts_at_most → IsWon (row_of kept m) g → HasWon (exchanges_of (hart m).trail) g
   pub known_lost : (m : ℕ) (g : Grant) → m < harts_at_most → IsLost (row_of kept m) g → HasLost (exchanges_of (hart m).trail) g
+  pub known_found : (x : Loss) → Contains kept.losses x → Contains (exchanges_of (hart x.hart).trail) x.exchange
 
 -- ---- the count
 

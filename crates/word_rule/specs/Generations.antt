@@ -7,9 +7,10 @@ use Rattle.word_rule.specs.declared.view.TrailItem.TheVariants.{Took, Exchanged,
 use Rattle.word_rule.specs.Layout.{generation_at, harts_at_most}
 use Rattle.word_rule.specs.Views.{NoneAbove, NoneLater, entries_by, is_block, last_block, readings_of}
 
--- a reading behind these entries has the block of the last TLS answer among them of its generation and module: none where there is none
+-- a reading behind these entries has the block of the last TLS answer among them of its generation and module, and none where there is none; and
+-- none of them is of a later generation
 abbrev pub IsKept : List Entry → TrailItem → Type 0
-IsKept before (ReadGeneration generation number block) = block ≡ last_block generation number before
+IsKept before (ReadGeneration generation number block) = (block ≡ last_block generation number before) × NoneLater generation before
 IsKept before _ = Unit {0}
 
 -- so has each reading in a trail

@@ -295,10 +295,14 @@ IsMark state = (state ≡ 1) ⊎ (state ≡ 2) ⊎ (state ≡ 3) ⊎ (state ≡ 
 abbrev pub Awaits : ℕ → Type 0
 Awaits state = (state ≡ 8) ⊎ (state ≡ 12) ⊎ (state ≡ 13)
 
+-- the lazy word that a hart has read of its row is the one that it is told, where the told entries are all that it knows of
+abbrev pub LazyIsTold : Told → Lane → Type 0
+LazyIsTold t lane = (o : Offer) (x : ℕ) → known_of lane ≡ t.entries → lane.offer ≡ Some o → o.lazy ≡ Some x → x ≡ t.lazy
+
 -- what a hart keeps of a note is true
 abbrev pub HartHeard : Option Told → HartView → Type 0
 HartHeard None h = Unit {0}
-HartHeard (Some t) h = BeginsWith h.heard t.had × BeginsWith h.heard t.told × BeginsWith (known_of h.lane) t.entries
+HartHeard (Some t) h = BeginsWith h.heard t.had × BeginsWith h.heard t.told × BeginsWith (known_of h.lane) t.entries × LazyIsTold t h.lane
 
 -- a grant's slot is a doubleword of guest memory
 abbrev pub FindTells : RowWord → Option Offer → ℕ → Type 0

@@ -48,9 +48,10 @@ IsSettled l = (l.calling ≡ false) ⊎ ((o : Offer) × (e : Entry) × (l.offer 
 abbrev pub takes_in : View → View → View
 takes_in (Keeper k) (Hart h) = Keeper (record k { joined = k.joined ++ h ∷ [] })
 takes_in (Keeper k) (Note events (OfHart m entries readings)) =
-    Keeper (record k { note = Some (record { had = k.events; told = events; number = m; entries = entries; readings = readings }) })
+    Keeper (record k { note = Some (record { had = k.events; told = events; number = m; entries = entries; readings = readings; lazy = 0 }) })
 takes_in (Hart h) (Note events (OfKeeper rows)) =
-    let told : Told = record { had = h.heard; told = events; number = h.number; entries = (slice_index_or rows h.number no_row).issued; readings = [] } in
+    let row = slice_index_or rows h.number no_row in
+    let told : Told = record { had = h.heard; told = events; number = h.number; entries = row.issued; readings = []; lazy = row.lazy } in
     Hart (record h { heard = longer h.heard events; note = Some told })
 takes_in v w = v
 

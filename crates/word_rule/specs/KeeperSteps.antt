@@ -12,6 +12,7 @@ use Rattle.word_rule.specs.declared.view.Fate.TheVariants.{Won, Lost}
 use Rattle.word_rule.specs.declared.view.HartView.{HartView}
 use Rattle.word_rule.specs.declared.view.KeeperView.{KeeperView}
 use Rattle.word_rule.specs.declared.view.Kept.{Kept}
+use Rattle.word_rule.specs.declared.view.Loss.{Loss}
 use Rattle.word_rule.specs.declared.view.Row.{Row}
 use Rattle.word_rule.specs.declared.view.Sight.{Sight}
 use Rattle.word_rule.specs.declared.view.Told.{Told}
@@ -53,6 +54,10 @@ fixed_if n false x = record x { fixed = Some n }
 
 abbrev pub fixed_by : ℕ → Kept → Kept
 fixed_by n x = fixed_if n (eqb n x.lazy) x
+
+-- a hart's grant was lost, and its slot has this word
+abbrev pub losing : ℕ → Grant → ℕ → KeeperView → KeeperView
+losing m g n k = record k { losses = k.losses ++ record { hart = m; exchange = record { grant = g; found = n } } ∷ [] }
 
 abbrev pub not_found : Row → Row
 not_found r = record r { found_open = false }
@@ -99,7 +104,7 @@ keeper_word (kinds.Unlock d old new lazy) = control_at d
 keeper_word (kinds.Count e) = count_at
 keeper_word (kinds.Await m) = state_at m
 keeper_word (kinds.Ask m) = state_at m
-keeper_word (kinds.Saw d) = value_at d
+keeper_word (kinds.Saw d m) = value_at d
 keeper_word (kinds.Fill m i x) = row_at m (index_of i)
 keeper_word (kinds.Hand m mark) = state_at m
 keeper_word (kinds.Open m) = state_at m
@@ -120,7 +125,7 @@ keeper_op (kinds.Unlock d old new lazy) = add (to_unlock old new)
 keeper_op (kinds.Count e) = add 1
 keeper_op (kinds.Await m) = load
 keeper_op (kinds.Ask m) = load
-keeper_op (kinds.Saw d) = load
+keeper_op (kinds.Saw d m) = load
 keeper_op (kinds.Fill m i x) = store x
 keeper_op (kinds.Hand m mark) = store mark
 keeper_op (kinds.Open m) = store 3
@@ -157,7 +162,7 @@ KeeperReady (kinds.Unlock d old new lazy) k =
 KeeperReady (kinds.Count e) k = length k.events < 18446744073709551615
 KeeperReady (kinds.Await m) k = m < harts_at_most
 KeeperReady (kinds.Ask m) k = (m < harts_at_most) × ((g : Grant) × ((row_of k m).pending ≡ Some g))
-KeeperReady (kinds.Saw d) k = IsSlot (kept_at k) d
+KeeperReady (kinds.Saw d m) k = (m < harts_at_most) × IsLost (row_of k m) (grant_in (row_of k m)) × IsOf (kept_at k) d (grant_in (row_of k m))
 KeeperReady (kinds.Fill m i x) k = (c : ℕ) × Waits k m c
 KeeperReady (kinds.Hand m mark) k =
     (c : ℕ) × Waits k m c × ((mark ≡ 1) ⊎ (mark ≡ 2) ⊎ (mark ≡ 6)) × ((row_of k m).number ≡ length k.events) × (mark ≡ 1 → c < (row_of k m).number)
@@ -188,7 +193,7 @@ keeper_after (kinds.Unlock d old new lazy) k n =
 keeper_after (kinds.Count e) k n = record (heeding k) { events = k.events ++ e.value ∷ [] }
 keeper_after (kinds.Await m) k n = awaited_if m (nat_le 8 n) (heeding k)
 keeper_after (kinds.Ask m) k n = with_row m (asked n (row_of k m)) (heeding k)
-keeper_after (kinds.Saw d) k n = with_kept d (fixed_by n (kept_at k d)) (heeding k)
+keeper_after (kinds.Saw d m) k n = losing m (grant_in (row_of k m)) n (with_kept d (fixed_by n (kept_at k d)) (heeding k))
 keeper_after (kinds.Fill m i x) k n = with_row m (with_field i x (row_of k m)) (heeding k)
 keeper_after (kinds.Hand m mark) k n = with_row m (handed mark (row_of k m)) (heeding k)
 keeper_after (kinds.Open m) k n = with_row m (opened (row_of k m)) (heeding k)
@@ -222,15 +227,16 @@ KeeperHeard (Some t) k = BeginsWith k.events t.told × BeginsWith (row_of k t.nu
 abbrev pub HasEnded : KeeperView → ℕ → HartView → Type 0
 HasEnded k m j = ((i : ℕ) × (slice_get k.joined i ≡ Some j)) × (j.number ≡ m) × (j.lane.calling ≡ false)
 
--- it has taken all that was issued to it, and its row has no call; the fates of its grants are those of its exchanges; and each of its
--- readings of the generation has the last block before it
-pub record HasTakenAll (row : Row) (n : ℕ) (j : HartView) : Type 0 where
-  pub taken : j.lane.taken ≡ row.issued
+-- it has taken all that was issued to it, and its row has no call; the fates of its grants are those of its exchanges, which found what
+-- was seen of those that it lost; and each of its readings of the generation has the last block before it
+pub record HasTakenAll (k : KeeperView) (m n : ℕ) (j : HartView) : Type 0 where
+  pub taken : j.lane.taken ≡ (row_of k m).issued
   pub entries : entries_of j.trail ≡ j.lane.taken
   pub idle : n < 8
-  pub won : (g : Grant) → IsWon row g → HasWon (exchanges_of j.trail) g
-  pub lost : (g : Grant) → IsLost row g → HasLost (exchanges_of j.trail) g
-  pub granted : (x : Exchange) → Contains (exchanges_of j.trail) x → IsGrant row x.grant
+  pub won : (g : Grant) → IsWon (row_of k m) g → HasWon (exchanges_of j.trail) g
+  pub lost : (g : Grant) → IsLost (row_of k m) g → HasLost (exchanges_of j.trail) g
+  pub found : (x : Loss) → Contains k.losses x → x.hart ≡ m → Contains (exchanges_of j.trail) x.exchange
+  pub granted : (x : Exchange) → Contains (exchanges_of j.trail) x → IsGrant (row_of k m) x.grant
   pub rising : Rising (exchanges_of j.trail)
   pub kept : AllKept [] j.trail
 
@@ -264,9 +270,9 @@ KeeperLearns (kinds.Load d) k n = ((kept_at k d).role ≡ Ro) ⊎ ((kept_at k d)
 KeeperLearns (kinds.Lock d control) k n = (kept_at k d).role ≢ Rw → n ≡ control
 KeeperLearns (kinds.Count e) k n = n ≡ length k.events
 KeeperLearns (kinds.Await m) k n =
-    ((j : HartView) → HasEnded k m j → HasTakenAll (row_of k m) n j) × ((d : ℕ) → IsSlot (kept_at k) d → IsDecided (kept_at k) (row_of k) d)
+    ((j : HartView) → HasEnded k m j → HasTakenAll k m n j) × ((d : ℕ) → IsSlot (kept_at k) d → IsDecided (kept_at k) (row_of k) d)
 KeeperLearns (kinds.Ask m) k n = TellsAsk k m n
-KeeperLearns (kinds.Saw d) k n = TellsSlot k d n
+KeeperLearns (kinds.Saw d m) k n = TellsSlot k d n
 KeeperLearns (kinds.Recall m i) k n = n ≡ field_of i (row_of k m)
 KeeperLearns kinds.RecallGeneration k n = n ≡ k.generation
 KeeperLearns (kinds.RecallRole d) k n = n % 8 ≡ role_code (kept_at k d).role

@@ -11,6 +11,7 @@ pub mod KeeperSlots
 pub mod Knowing
 pub mod Lanes
 pub mod Locks
+pub mod Losses
 pub mod Marks
 pub mod Owners
 pub mod Put

@@ -16,7 +16,7 @@ use Rattle.word_rule.specs.KeeperSteps.{KeeperLearns, keeper_word, keeper_op, ke
 use Rattle.word_rule.specs.Seats.{Heard, Seats}
 use Rattle.word_rule.specs.Words.{Words}
 use Rattle.word_rule.specs.Calls.{Calls}
-use Rattle.word_rule.specs.Slots.{Slots}
+use Rattle.word_rule.specs.Slots.{AreLosses, Slots}
 use Rattle.word_rule.specs.Generations.{Generations}
 
 -- the parts, over the words and what the views say: the keeper's, and the last view of each hart
@@ -26,6 +26,7 @@ pub record Parts (word : ℕ → ℕ) (kept : KeeperView) (hart : ℕ → HartVi
   pub calls : Calls word (length kept.events) (row_of kept) (after (λ (h : HartView). h.lane) hart) (after (λ (h : HartView). entries_of h.trail) hart)
   pub slots : Slots word (kept_at kept) kept.access.locked (length kept.events) (row_of kept) (after (λ (h : HartView). h.lane.tried) hart)
       (after (λ (h : HartView). exchanges_of h.trail) hart)
+  pub losses : AreLosses kept.losses (after (λ (h : HartView). exchanges_of h.trail) hart)
   pub generations : Generations word kept.generation (row_of kept) (after (λ (h : HartView). h.trail) hart)
 
 pub record IsGuest (words : List ℕ) (views : List View) : Type 0 where

@@ -1,10 +1,11 @@
 -- Who the seats are. A hart's last view is that of its seat, or the one that the keeper's view keeps since the seat was joined.
-use Rattle.std.specs.Prelude.{◌≡◌, ◌⊎◌, ℕ, ◌≤◌, ◌<◌, List, length, Some, slice_get, slice_index_or}
+use Rattle.std.specs.Prelude.{◌≡◌, ◌⊎◌, ℕ, ◌≤◌, ◌<◌, List, length, None, Some, slice_get, slice_index_or}
 use mathlib.Core.Option.{some}
 use lib.ListN.{get_elem?}
 use Rattle.history_event.specs.declared.event.Event.{Event}
 use Rattle.word_rule.specs.declared.view.HartView.{HartView}
 use Rattle.word_rule.specs.declared.view.KeeperView.{KeeperView}
+use Rattle.word_rule.specs.declared.view.Row.{Row}
 use Rattle.word_rule.specs.declared.view.Slip.{Slip}
 use Rattle.word_rule.specs.declared.view.Slip.TheVariants.{OfHart, OfKeeper}
 use Rattle.word_rule.specs.declared.view.View.{View}
@@ -14,10 +15,16 @@ use Rattle.word_rule.specs.Views.{BeginsWith, first_hart, no_row, NoneAbove, row
 use Rattle.word_rule.specs.HartSteps.{HartHeard}
 use Rattle.word_rule.specs.KeeperSteps.{KeeperHeard}
 
+-- a row of the keeper's then and now: its entries begin those that were issued since; and where none was, and the hart isn't known to call, the row
+-- has the lazy word that it had
+pub record GoesOn (before now : Row) : Type 0 where
+  pub issued : BeginsWith now.issued before.issued
+  pub lazy : now.since ≡ None → now.issued ≡ before.issued → (before.since ≡ None) × (now.lazy ≡ before.lazy)
+
 -- a note's entries are issued, and no generation that a hart read is above the keeper's
 abbrev pub Issued : KeeperView → Slip → Type 0
 Issued kept (OfHart m entries readings) = BeginsWith (row_of kept m).issued entries × NoneAbove kept.generation readings
-Issued kept (OfKeeper rows) = (m : ℕ) → BeginsWith (row_of kept m).issued (slice_index_or rows m no_row).issued
+Issued kept (OfKeeper rows) = (m : ℕ) → GoesOn (slice_index_or rows m no_row) (row_of kept m)
 
 -- what is true of one seat's view: there is one keeper's view, and one view of a hart's number
 abbrev pub Fits : KeeperView → ℕ → (ℕ → ℕ) → (ℕ → HartView) → ℕ → View → Type 0

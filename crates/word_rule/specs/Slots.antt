@@ -4,6 +4,7 @@ use Rattle.word_rule.specs.declared.entry.Exchange.{Exchange}
 use Rattle.word_rule.specs.declared.entry.Grant.{Grant}
 use Rattle.word_rule.specs.declared.view.Fate.{Fate}
 use Rattle.word_rule.specs.declared.view.Kept.{Kept}
+use Rattle.word_rule.specs.declared.view.Loss.{Loss}
 use Rattle.word_rule.specs.declared.view.Row.{Row}
 use Rattle.word_rule.specs.Layout.{harts_at_most, place_of, state_at, value_at}
 use Rattle.word_rule.specs.Views.{grant_in}
@@ -15,6 +16,10 @@ HasWon exchanges g = Contains exchanges (record { grant = g; found = g.lazy })
 
 abbrev pub HasLost : List Exchange → Grant → Type 0
 HasLost exchanges g = (found : ℕ) × (found ≢ g.lazy) × Contains exchanges (record { grant = g; found = found })
+
+-- what was seen of lost grants is what their exchanges found, which stand in their harts' trails
+abbrev pub AreLosses : List Loss → (ℕ → List Exchange) → Type 0
+AreLosses losses exchanges = (x : Loss) → Contains losses x → Contains (exchanges x.hart) x.exchange
 
 -- of a doubleword: the hart and the grant that won it, if one did
 abbrev pub Winner : Type 0

@@ -18,6 +18,7 @@ first_keeper = record {
   joined = [];
   note = None;
   shown = [];
+  losses = [];
 }
 
 -- what that view says of anything
@@ -32,3 +33,4 @@ pub record IsFirst (k : KeeperView) : Type 0 where
   pub none_joined : k.joined ≡ []
   pub no_note : k.note ≡ None
   pub none_shown : k.shown ≡ []
+  pub none_lost : k.losses ≡ []

@@ -93,8 +93,8 @@ pub enum KeeperKind {
     Await(u64),
     /// To load the state of a hart's row, and see what came of its grant. (Ask.)
     Ask(u64),
-    /// To load the slot of a doubleword whose grant was lost. (Ask.)
-    Saw(u64),
+    /// To load the slot of a doubleword, whose grant in this hart's row was lost. (Ask.)
+    Saw(u64, u64),
     /// To store a word of a hart's row. (Store a word of a row.)
     Fill(u64, RowWord, u64),
     /// To hand a row over with this mark: 1, 2 or 6. (Hand the row over.)

@@ -78,6 +78,8 @@ pub struct Told {
     pub entries: LinkedList<Entry>,
     /// The generations that this hart read, where it tells of itself.
     pub readings: LinkedList<u64>,
+    /// The lazy word of its row, where the keeper tells.
+    pub lazy: u64,
 }
 
 /// What a hart knows.
@@ -165,6 +167,15 @@ pub struct Sight {
     pub second: u64,
 }
 
+/// What a lost grant's exchange found, as the slot showed it to the keeper.
+#[derive(Clone, Copy)]
+pub struct Loss {
+    /// The hart whose grant it was.
+    pub hart: u64,
+    /// The grant, and the slot's word.
+    pub exchange: Exchange,
+}
+
 /// What the keeper knows.
 pub struct KeeperView {
     /// Of each doubleword of guest memory, from the first address on.
@@ -185,6 +196,8 @@ pub struct KeeperView {
     pub note: Option<Told>,
     /// Each time that a doubleword was found locked by another seat, in order.
     pub shown: LinkedList<Sight>,
+    /// Each time that the slot of a lost grant was looked at, in order.
+    pub losses: LinkedList<Loss>,
 }
 
 /// What a note carries beside a list of events.

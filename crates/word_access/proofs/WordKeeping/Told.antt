@@ -1,10 +1,11 @@
 -- What a keeper's note and a hart's tell each other.
-use Rattle.std.proofs.Common.{◌≡◌, ℕ, ◌+◌, List, [], ◌∷◌, ◌++◌, append-nil, length, refl, sym, ap, subst, ◌∙◌, arith}
+use Rattle.std.proofs.Common.{◌≡◌, ℕ, ◌+◌, List, [], ◌∷◌, ◌++◌, append-nil, length, Some, refl, sym, ap, subst, ◌∙◌, arith}
 use Rattle.std.proofs.lemmas.List.{length-append}
 use Rattle.word_rule.specs.declared.kind.HartKind.TheVariants as harts
 use Rattle.word_rule.specs.declared.kind.KeeperKind.TheVariants as keepers
 use Rattle.word_rule.specs.declared.view.HartView.{HartView}
 use Rattle.word_rule.specs.declared.view.KeeperView.{KeeperView}
+use Rattle.word_rule.specs.declared.view.Offer.{Offer}
 use Rattle.word_rule.specs.HartSteps.{HartLearns, hart_after}
 use Rattle.word_rule.specs.KeeperSteps.{KeeperLearns, keeper_after}
 use Rattle.word_rule.specs.Views.{BeginsWith, known_of, longer, NoneAbove, readings_of, row_of}
@@ -51,6 +52,9 @@ told_hart h h1 h2 k n idle begun taken is = is ∙ (ap (λ h. hart_after harts.L
 second : (h h1 : HartView) (k : KeeperView) (n : ℕ) → h1 ≡ told_by k h → HartLearns harts.Listen h1 n → BeginsWith (known_of h.lane) (row_of k h.number).issued
 second h h1 k n taken learns = (subst (λ h. HartLearns harts.Listen h n) taken learns).2
 
+third : (h h1 : HartView) (k : KeeperView) (n : ℕ) → h1 ≡ told_by k h → HartLearns harts.Listen h1 n → (o : Offer) (x : ℕ) → known_of h.lane ≡ (row_of k h.number).issued → h.lane.offer ≡ Some o → o.lazy ≡ Some x → x ≡ (row_of k h.number).lazy
+third h h1 k n taken learns = (subst (λ h. HartLearns harts.Listen h n) taken learns).3
+
 -- a hart knows just what was issued to it
 told_issued : (h : HartView) (k : KeeperView) → BeginsWith (row_of k h.number).issued (known_of h.lane) → BeginsWith (known_of h.lane) (row_of k h.number).issued → known_of h.lane ≡ (row_of k h.number).issued
 told_issued h k a b = each_other (known_of h.lane) (row_of k h.number).issued b a
@@ -59,14 +63,17 @@ told_issued h k a b = each_other (known_of h.lane) (row_of k h.number).issued b 
 pub record Telling (h h2 : HartView) (k : KeeperView) : Type 0 where
   pub heard : h2 ≡ record h { heard = k.events }
   pub issued : known_of h.lane ≡ (row_of k h.number).issued
+  pub lazy : (o : Offer) (x : ℕ) → h.lane.offer ≡ Some o → o.lazy ≡ Some x → x ≡ (row_of k h.number).lazy
   pub readings : NoneAbove k.generation (readings_of h.trail)
 
 pub tells : (h h0 h1 h2 : HartView) (k k1 k2 : KeeperView) (n1 n2 : ℕ) → IsResting k → IsIdle h → h0 ≡ h → k1 ≡ told_of h k → k2 ≡ keeper_after keepers.Listen k1 n1 → KeeperLearns keepers.Listen k1 n1
     → h1 ≡ told_by k2 h0 → h2 ≡ hart_after harts.Listen h1 n2 → HartLearns harts.Listen h1 n2 → Telling h h2 k
 tells h h0 h1 h2 k k1 k2 n1 n2 resting idle still taken1 after1 learns1 taken2 after2 learns2 =
     let told = first h k k1 n1 taken1 learns1 in
-    let taken : h1 ≡ told_by k h = taken2 ∙ (λ i. told_by (told_keeper h k k1 k2 n1 resting taken1 after1 i) (still i)) in record {
+    let taken : h1 ≡ told_by k h = taken2 ∙ (λ i. told_by (told_keeper h k k1 k2 n1 resting taken1 after1 i) (still i)) in
+    let issued : known_of h.lane ≡ (row_of k h.number).issued = told_issued h k told.1 (second h h1 k n2 taken learns2) in record {
       heard = told_hart h h1 h2 k n2 idle told.0 taken after2;
-      issued = told_issued h k told.1 (second h h1 k n2 taken learns2);
+      issued = issued;
+      lazy = λ o x has read. third h h1 k n2 taken learns2 o x issued has read;
       readings = told.2;
     }

@@ -1,6 +1,7 @@
 //! What the keeper tells a hart, by notes.
 
-ghost use Rattle.std.specs.Prelude.{◌≡◌};
+ghost use Rattle.std.specs.Prelude.{◌≡◌, ℕ, Some};
+ghost use Rattle.word_rule.specs.declared.view.Offer.{Offer};
 ghost use Rattle.word_rule.specs.Joining.{IsSettled};
 ghost use Rattle.word_rule.specs.Views.{BeginsWith, NoneAbove, known_of, readings_of, row_of};
 ghost use Rattle.word_steps.specs.Views.{IsIdle, IsResting};
@@ -19,6 +20,7 @@ pub fn tell<J: Naming>(memory: &Memory<J>, desk: &mut Desk<J>, hand: &mut Hand<J
     ensures begun { BeginsWith desk.old.events hand.old.heard }
     ensures keeper { desk.new ≡ desk.old }
     ensures issued { known_of hand.old.lane ≡ (row_of desk.old hand.old.number).issued }
+    ensures lazy { (o : Offer) (x : ℕ) → hand.old.lane.offer ≡ Some o → o.lazy ≡ Some x → x ≡ (row_of desk.old hand.old.number).lazy }
     ensures readings { NoneAbove desk.old.generation (readings_of hand.old.trail) }
 {
     desk.take_note(memory, hand);

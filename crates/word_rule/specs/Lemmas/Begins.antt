@@ -96,6 +96,7 @@ start = record {
   joined = [];
   note = None;
   shown = [];
+  losses = [];
 }
 
 first_is : first_keeper ≡ start
@@ -109,6 +110,7 @@ first_parts = record {
   calls = subst (λ (p : (ℕ → ℕ) × (ℕ → Row)). Calls p.0 0 p.1 (λ m. (first_hart m).lane) (λ m. [])) (λ i. (words i, rows i)) (record { counted = refl; each_row = λ m few. first_row m });
   slots = subst (λ (p : (ℕ → ℕ) × (ℕ → Kept) × (ℕ → Row)). Slots p.0 p.1 None 0 p.2 (λ m. None) (λ m. [])) (λ i. (words i, knowledge i, rows i)) first_slots;
   generations = subst (λ (p : (ℕ → ℕ) × (ℕ → Row)). Generations p.0 0 p.1 (λ m. [])) (λ i. (words i, rows i)) (record { current = refl; issued = λ m few e c. absurd (nothing e c); kept = λ m few. tt; read = λ m few. none_read 0 });
+  losses = λ x there. absurd (nothing x there);
 }
   where
     words : (λ i. 0) ≡ slice_index first_words
@@ -161,4 +163,5 @@ is_first = subst IsFirst (sym first_is) (record {
   none_joined = refl;
   no_note = refl;
   none_shown = refl;
+  none_lost = refl;
 })

@@ -22,16 +22,16 @@ use Rattle.word_rule.specs.declared.view.View.TheVariants.{Keeper, Hart, Note, S
 use Rattle.word_rule.specs.Layout.{harts_at_most}
 use Rattle.word_rule.specs.Views.{after, BeginsWith, entries_of, exchanges_of, first_hart, kept_at, known_of, longer, no_row, NoneAbove, put, readings_of, row_of, unmapped}
 use Rattle.word_rule.specs.KeeperSteps.{KeeperHeard}
-use Rattle.word_rule.specs.Seats.{Fits, Heard, HartFits, Issued, Seats}
+use Rattle.word_rule.specs.Seats.{Fits, GoesOn, Heard, HartFits, Issued, Seats}
 use Rattle.word_rule.specs.Calls.{Calls, RowIs}
 use Rattle.word_rule.specs.Words.{Words}
-use Rattle.word_rule.specs.Slots.{Slots}
+use Rattle.word_rule.specs.Slots.{AreLosses, Slots}
 use Rattle.word_rule.specs.Generations.{Generations}
 use Rattle.word_rule.specs.Rule.{IsGuest, Parts}
 use Rattle.word_rule.specs.Joining.{HasNote, HasRoom, JoinKeeps, MayTake, new_hart, note_of, SplitKeeps, takes_in, with_hart}
 use Rattle.word_rule.specs.Lemmas.Put.{field_stays, put_else, put_each, put_here}
-use Rattle.word_rule.specs.Lemmas.Knowing.{known_begins, knows_all}
-use Rattle.word_rule.specs.Lemmas.Seating.{begins_itself, hart_seats, no_keeper, set_found}
+use Rattle.word_rule.specs.Lemmas.Knowing.{known_begins, knows_all, knows_lazy}
+use Rattle.word_rule.specs.Lemmas.Seating.{begins_itself, goes_itself, hart_seats, no_keeper, set_found}
 
 -- ---- lists
 
@@ -256,13 +256,14 @@ take_hart views k keeper seat_of hart other h numbered apart there s = record {
 
 -- ---- the parts, where they read nothing that changes
 
-same_parts : (word : ℕ → ℕ) (k k' : KeeperView) (hart : ℕ → HartView) → k'.words ≡ k.words → k'.events ≡ k.events → k'.rows ≡ k.rows → k'.access ≡ k.access → k'.generation ≡ k.generation → Parts word k hart → Parts word k' hart
-same_parts word k k' hart words events rows access generation p = record {
+same_parts : (word : ℕ → ℕ) (k k' : KeeperView) (hart : ℕ → HartView) → k'.words ≡ k.words → k'.events ≡ k.events → k'.rows ≡ k.rows → k'.access ≡ k.access → k'.generation ≡ k.generation → k'.losses ≡ k.losses → Parts word k hart → Parts word k' hart
+same_parts word k k' hart words events rows access generation losses p = record {
   heard = subst (λ l. Heard l hart) (sym events) p.heard;
   locks = subst (λ (q : List Kept × Access). Words word (λ d. slice_index_or q.0 d unmapped) q.1 (after (λ (h : HartView). h.access) hart)) (λ i. (sym words i, sym access i)) p.locks;
   calls = subst (λ (q : List Event × List Row). Calls word (length q.0) (λ m. slice_index_or q.1 m no_row) (after (λ (h : HartView). h.lane) hart) (after (λ (h : HartView). entries_of h.trail) hart)) (λ i. (sym events i, sym rows i)) p.calls;
   slots = subst (λ (q : List Kept × Access × List Event × List Row). Slots word (λ d. slice_index_or q.0 d unmapped) q.1.locked (length q.2) (λ m. slice_index_or q.3 m no_row) (after (λ (h : HartView). h.lane.tried) hart) (after (λ (h : HartView). exchanges_of h.trail) hart))
       (λ i. (sym words i, sym access i, sym events i, sym rows i)) p.slots;
+  losses = subst (λ l. AreLosses l (after (λ (h : HartView). exchanges_of h.trail) hart)) (sym losses) p.losses;
   generations = subst (λ (q : ℕ × List Row). Generations word q.0 (λ m. slice_index_or q.1 m no_row) (after (λ (h : HartView). h.trail) hart)) (λ i. (sym generation i, sym rows i)) p.generations;
 }
 
@@ -273,6 +274,7 @@ told_parts word k hart m h' access lane trail fits p = record {
   calls = subst (λ (q : (ℕ → Lane) × (ℕ → List Entry)). Calls word (length k.events) (row_of k) q.0 q.1) (λ i. (field_stays (λ (h : HartView). h.lane) hart m h' lane i, field_stays (λ (h : HartView). entries_of h.trail) hart m h' (ap entries_of trail) i)) p.calls;
   slots = subst (λ (q : (ℕ → Option Exchange) × (ℕ → List Exchange)). Slots word (kept_at k) k.access.locked (length k.events) (row_of k) q.0 q.1)
       (λ i. (field_stays (λ (h : HartView). h.lane.tried) hart m h' (ap (λ (l : Lane). l.tried) lane) i, field_stays (λ (h : HartView). exchanges_of h.trail) hart m h' (ap exchanges_of trail) i)) p.slots;
+  losses = subst (λ f. AreLosses k.losses f) (field_stays (λ (h : HartView). exchanges_of h.trail) hart m h' (ap exchanges_of trail)) p.losses;
   generations = subst (λ f. Generations word k.generation (row_of k) f) (field_stays (λ (h : HartView). h.trail) hart m h' trail) p.generations;
 }
 
@@ -290,7 +292,7 @@ made_keeps seat (Keeper k) room words views g at = record {
   wide = g.wide;
   seats = subst (λ i. Seats (set views i (Keeper (record k { harts = k.harts + 1 })) ++ Hart (first_hart k.harts) ∷ []) (record k { harts = k.harts + 1 }) g.keeper (put g.seat_of k.harts (length views)) g.hart) (sym fits.1)
       (add_hart views k g.keeper g.seat_of g.hart room (subst (λ k. Seats views k g.keeper g.seat_of g.hart) (sym fits.0) g.seats));
-  parts = same_parts (slice_index words) k (record k { harts = k.harts + 1 }) g.hart refl refl refl refl refl (subst (λ k. Parts (slice_index words) k g.hart) (sym fits.0) g.parts);
+  parts = same_parts (slice_index words) k (record k { harts = k.harts + 1 }) g.hart refl refl refl refl refl refl (subst (λ k. Parts (slice_index words) k g.hart) (sym fits.0) g.parts);
 }
   where
     fits : Fits g.kept g.keeper g.seat_of g.hart seat (Keeper k)
@@ -309,7 +311,7 @@ note_keeps seat (Keeper k) has words views g at =
       wide = g.wide;
       seats = add_note views g.kept g.keeper g.seat_of g.hart k.events (OfKeeper k.rows)
           (subst (λ (x : KeeperView). BeginsWith g.kept.events x.events) (sym fits.0) (begins_itself g.kept.events))
-          (λ m. subst (λ (x : KeeperView). BeginsWith (row_of g.kept m).issued (row_of x m).issued) (sym fits.0) (begins_itself (row_of g.kept m).issued))
+          (λ m. subst (λ (x : KeeperView). GoesOn (row_of x m) (row_of g.kept m)) (sym fits.0) (goes_itself (row_of g.kept m)))
           g.seats;
       parts = g.parts;
     })
@@ -342,10 +344,10 @@ join_keeps seat (Keeper k) other (Hart h) may words views g at apart there =
       wide = g.wide;
       seats = subst (λ i. Seats (set (set views i (Keeper k')) other Spent) k' g.keeper (put g.seat_of h.number g.keeper) g.hart) (sym fits.1)
           (take_hart views k g.keeper g.seat_of g.hart other h (λ m. (g.parts.heard m).numbered) (λ e. apart (e ∙ sym fits.1)) was (subst (λ k. Seats views k g.keeper g.seat_of g.hart) (sym fits.0) g.seats));
-      parts = same_parts (slice_index words) k k' g.hart refl refl refl refl refl (subst (λ k. Parts (slice_index words) k g.hart) (sym fits.0) g.parts);
+      parts = same_parts (slice_index words) k k' g.hart refl refl refl refl refl refl (subst (λ k. Parts (slice_index words) k g.hart) (sym fits.0) g.parts);
     }
 join_keeps seat (Keeper k) other (Note events (OfHart m entries readings)) may words views g at apart there =
-    let t : Told = record { had = k.events; told = events; number = m; entries = entries; readings = readings } in
+    let t : Told = record { had = k.events; told = events; number = m; entries = entries; readings = readings; lazy = 0 } in
     let k' : KeeperView = record k { note = Some t } in
     let fits : Fits g.kept g.keeper g.seat_of g.hart seat (Keeper k) = g.seats.each seat (Keeper k) at in
     let was : get_elem? views other ≡ some (Note events (OfHart m entries readings)) = sym (set_else views seat other (Keeper k') apart) ∙ there in
@@ -361,10 +363,11 @@ join_keeps seat (Keeper k) other (Note events (OfHart m entries readings)) may w
           (spend (set views g.keeper (Keeper k')) k' g.keeper g.seat_of g.hart other (λ e. apart (sym e ∙ sym fits.1))
           (λ h q. let z : Note events (OfHart m entries readings) ≡ Hart h = some-injective (Note events (OfHart m entries readings)) (Hart h) (sym there' ∙ q) in absurd (cc))
           (keeps_note views k g.keeper g.seat_of g.hart t (note.0, note.1.0, note.1.1) seats));
-      parts = same_parts (slice_index words) k k' g.hart refl refl refl refl refl (subst (λ k. Parts (slice_index words) k g.hart) (sym fits.0) g.parts);
+      parts = same_parts (slice_index words) k k' g.hart refl refl refl refl refl refl (subst (λ k. Parts (slice_index words) k g.hart) (sym fits.0) g.parts);
     }
 join_keeps seat (Hart h) other (Note events (OfKeeper rows)) may words views g at apart there =
-    let h' : HartView = record h { heard = longer h.heard events; note = Some (record { had = h.heard; told = events; number = h.number; entries = (slice_index_or rows h.number no_row).issued; readings = [] }) } in
+    let before : Row = slice_index_or rows h.number no_row in
+    let h' : HartView = record h { heard = longer h.heard events; note = Some (record { had = h.heard; told = events; number = h.number; entries = before.issued; readings = []; lazy = before.lazy }) } in
     let fits : Fits g.kept g.keeper g.seat_of g.hart seat (Hart h) = g.seats.each seat (Hart h) at in
     let few : h.number < harts_at_most = (let low : h.number < g.kept.harts = fits.0 in let most : g.kept.harts ≤ harts_at_most = g.seats.few in omega arith) in
     let was : get_elem? views other ≡ some (Note events (OfKeeper rows)) = sym (set_else views seat other (Hart h') apart) ∙ there in
@@ -388,7 +391,13 @@ join_keeps seat (Hart h) other (Note events (OfKeeper rows)) may words views g a
           (record {
             numbered = refl;
             heard = both.begins;
-            told = (both.first, both.second, subst (λ l. BeginsWith l (slice_index_or rows h.number no_row).issued) (sym all) (note.1 h.number));
+            told = (
+              both.first,
+              both.second,
+              subst (λ l. BeginsWith l before.issued) (sym all) (note.1 h.number).issued,
+              λ o x same has read. let lazy = knows_lazy (slice_index words) (length g.kept.events) h.number (row_of g.kept h.number) h.lane (entries_of h.trail) row o x has read in
+                  lazy.1 ∙ ((note.1 h.number).lazy lazy.0 (sym all ∙ same)).1,
+            );
           })
           g.parts;
     }

@@ -277,7 +277,7 @@ module _ (word : ℕ → ℕ) (k : KeeperView) (lane : ℕ → Lane) (entries : 
       unmoved word (state_at m) (λ f. Calls f (length k.events) (λ j. slice_index_or (slice_set k.rows m r) j no_row) lane entries)
       (changed word m r ready.0 refl (λ j few' apart i low. refl)
       (asked_alike (eqb (s % 8) 3) (eqb (s % 8) 4) (eqb (s % 8) 5) word (length k.events) m (row_of k m) (lane m) (entries m) (old m ready.0)))
-  keeper_calls (kinds.Saw d) ready = at_value d (word (value_at d))
+  keeper_calls (kinds.Saw d m) ready = at_value d (word (value_at d))
   keeper_calls (kinds.Fill m i x) ready = at_row m (index_of i) x (with_field i x (row_of k m)) ready.1.0 (low_index i)
       (filled word (length k.events) m (row_of k m) (lane m) (entries m) ready.0 i x (old m ready.1.0) ready.1.1)
   keeper_calls (kinds.Hand m mark) ready = at_row m 0 mark (handed mark (row_of k m)) ready.1.0 (omega arith)

@@ -171,10 +171,10 @@ module _ (word : ℕ → ℕ) (k : KeeperView) (harts : ℕ → Access) (w : Wor
   keeper_locks (kinds.Count e) small ready = below 2 ((word 2 + 1) % 18446744073709551616) (omega arith)
   keeper_locks (kinds.Await m) small ready = awaited_same (λ f b. Words (put word (state_at m) (word (state_at m))) f b harts) m (nat_le 8 (word (state_at m))) k (below (state_at m) (word (state_at m)) (low_row m 0 ready (omega arith)))
   keeper_locks (kinds.Ask m) small ready = below (state_at m) (word (state_at m)) (low_row m 0 ready.0 (omega arith))
-  keeper_locks (kinds.Saw d) small ready =
+  keeper_locks (kinds.Saw d m) small ready =
       let x : Kept = fixed_by (word (value_at d)) (kept_at k d) in
       unmoved word (value_at d) (λ f. Words f (λ j. slice_index_or (slice_set k.words d x) j unmapped) k.access harts)
-      (moved d x word k.access ready.0 (seen_words word (kept_at k) (put (kept_at k) d x) k.access harts (known_same (kept_at k) d (word (value_at d))) w))
+      (moved d x word k.access ready.2.0.0 (seen_words word (kept_at k) (put (kept_at k) d x) k.access harts (known_same (kept_at k) d (word (value_at d))) w))
   keeper_locks (kinds.Fill m i x) small ready = below (row_at m (index_of i)) x (low_row m (index_of i) ready.1.0 (low_index i))
   keeper_locks (kinds.Hand m mark) small ready = below (state_at m) mark (low_row m 0 ready.1.0 (omega arith))
   keeper_locks (kinds.Open m) small ready = below (state_at m) 3 (low_row m 0 ready.1.0 (omega arith))

@@ -670,7 +670,7 @@ module _ (word : ℕ → ℕ) (k : KeeperView) (tried : ℕ → Option Exchange)
       let n : ℕ = word (state_at m) in
       unmoved word (state_at m) (λ f. Slots f (kept_at k) k.access.locked (length k.events) (λ j. slice_index_or (slice_set k.rows m (asked n (row_of k m))) j no_row) tried exchanges)
       (asks m ready.1.0 ready.0 ready.1.1 (eqb (n % 8) 3) (eqb (n % 8) 4) (eqb (n % 8) 5) refl refl refl)
-  keeper_slots place held still (kinds.Saw d) ready = sees d ready
+  keeper_slots place held still (kinds.Saw d m) ready = sees d ready.2.0
   keeper_slots place held still (kinds.Fill m i x) ready = fills m i x ready.1.0 ready.1.2
   keeper_slots place held still (kinds.Hand m mark) ready = hands m mark ready.1.0 ready.1.2 (other mark ready.2)
     where
@@ -762,23 +762,31 @@ module _ (word : ℕ → ℕ) (k : KeeperView) (tried : ℕ → Option Exchange)
           let z : Some (i, p) ≡ Some (m, g) = sym (did.won refl) ∙ (ap s.winner at ∙ w) in
           let y : (i, p) ≡ (m, g) = cc in (ap (λ (x : ℕ × Grant). x.0) y, ap (λ (x : ℕ × Grant). x.1) y)
 
-  pub saw_tells : (d : ℕ) → KeeperReady (kinds.Saw d) k → KeeperLearns (kinds.Saw d) k (word (value_at d))
-  saw_tells d ready = record {
+  -- the exchange of a grant that is known as lost found the word that its slot has
+  pub loss_is : (d m : ℕ) (g : Grant) → m < harts_at_most → Contains (row_of k m).settled (record { grant = g; fate = Lost }) → IsOf (kept_at k) d g → Contains (exchanges m) (record { grant = g; found = word (value_at d) })
+  loss_is d m g few c o =
+      let at : place_of g.entry.slot ≡ d = at_place g d o.1 in
+      let l : HasLost (exchanges m) g = (s.each_hart m few).lost g c in
+      let did = s.each_exchange m few (record { grant = g; found = l.0 }) l.2 (subst (λ n. IsOf (kept_at k) n g) (sym at) o) in
+      subst (λ n. Contains (exchanges m) (record { grant = g; found = n })) (sym (did.lost l.1).1 ∙ ap (λ n. word (value_at n)) at) l.2
+
+  pub saw_tells : (d m : ℕ) → KeeperReady (kinds.Saw d m) k → KeeperLearns (kinds.Saw d m) k (word (value_at d))
+  saw_tells d m saw = record {
     allowed = allowed (s.winner d) refl;
     lost = λ m g few c o q.
         let l : HasLost (exchanges m) g = (s.each_hart m few).lost g c in
         let did : Did (word (value_at (place_of g.entry.slot))) (kept_at k (place_of g.entry.slot)).lazy (s.winner (place_of g.entry.slot)) m (record { grant = g; found = l.0 }) =
         s.each_exchange m few (record { grant = g; found = l.0 }) l.2 (subst (λ n. IsOf (kept_at k) n g) (sym (at_place g d o.1)) o) in
         did.not_lazy (ap (λ n. word (value_at n)) (at_place g d o.1) ∙ (q ∙ did.lazy_is));
-    fixed = λ x seen. ((s.each_slot d ready).fixed x seen).0;
-    won = λ m g few c o. ((s.each_slot d ready).bound m g (won_is m g few c d o)).0;
+    fixed = λ x seen. ((s.each_slot d saw.2.0).fixed x seen).0;
+    won = λ m g few c o. ((s.each_slot d saw.2.0).bound m g (won_is m g few c d o)).0;
     bound = λ other. imaged other (s.winner d) refl;
   }
     where
       imaged : (kept_at k d).value ≢ (kept_at k d).lazy → (w : Winner) → s.winner d ≡ w → word (value_at d) ≡ (kept_at k d).value
-      imaged other None e = (s.each_slot d ready).image e
-      imaged other (Some (m, g)) e = absurd (other ((s.each_slot d ready).lazy m g e))
+      imaged other None e = (s.each_slot d saw.2.0).image e
+      imaged other (Some (m, g)) e = absurd (other ((s.each_slot d saw.2.0).lazy m g e))
 
       allowed : (w : Winner) → s.winner d ≡ w → IsAllowed (kept_at k) (row_of k) d (word (value_at d))
-      allowed None e = inl ((s.each_slot d ready).image e)
-      allowed (Some (m, g)) e = let b = (s.each_slot d ready).by m g e in inr (m, g, b.1, b.0, ((s.each_slot d ready).bound m g e).0)
+      allowed None e = inl ((s.each_slot d saw.2.0).image e)
+      allowed (Some (m, g)) e = let b = (s.each_slot d saw.2.0).by m g e in inr (m, g, b.1, b.0, ((s.each_slot d saw.2.0).bound m g e).0)

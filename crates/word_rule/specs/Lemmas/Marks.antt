@@ -18,7 +18,7 @@ use Rattle.word_rule.specs.declared.view.Row.{Row}
 use Rattle.word_rule.specs.declared.view.TrailItem.{TrailItem}
 use Rattle.word_rule.specs.declared.view.TrailItem.TheVariants.{Took, Done, Generation as ReadGeneration}
 use Rattle.word_rule.specs.Layout.{harts_at_most, value_at, control_at, state_at, row_at, index_of, place_of, role_in, lock_bit}
-use Rattle.word_rule.specs.Views.{put, entries_of, entry_of, last_block, no_row, NoneAbove, readings_by, row_of, tried_entry, with_field}
+use Rattle.word_rule.specs.Views.{put, entries_of, entry_of, last_block, no_row, NoneAbove, NoneLater, readings_by, row_of, tried_entry, with_field}
 use Rattle.word_rule.specs.Operations.{becomes}
 use Rattle.word_rule.specs.HartSteps.{hart_word, hart_op, hart_after, glanced, looked, locked_if, heeded, permits, ask_is_fresh, ask_place, load_place, store_place}
 use Rattle.word_rule.specs.KeeperSteps.{KeeperReady, asked, asked_if, awaited_if, handed, heeding, keeper_word, keeper_op, keeper_after, keeps_if, not_found, opened, settled_as}
@@ -46,7 +46,7 @@ locked_kept generation ask c n false h k = adds generation h.trail _ k tt refl
 
 module _ (word : ℕ → ℕ) (generation : ℕ) (row : ℕ → Row) (trail : ℕ → List TrailItem) (g : Generations word generation row trail)
     (h : HartView) (few : h.number < harts_at_most) (mine : trail h.number ≡ h.trail) (entries : entries_of h.trail ≡ h.lane.taken ++ tried_entry h.lane.tried)
-    (grants : (x : Exchange) → h.lane.tried ≡ Some x → x.grant.entry.mark ≡ 3) where
+    (grants : (x : Exchange) → h.lane.tried ≡ Some x → x.grant.entry.mark ≡ 3) (issued : (e : Entry) → Contains (entries_of h.trail) e → Contains (row h.number).issued e) where
   old : AreReadings generation h.trail
   old = subst (AreReadings generation) mine (g.kept h.number few, g.read h.number few)
 
@@ -68,6 +68,10 @@ module _ (word : ℕ → ℕ) (generation : ℕ) (row : ℕ → Row) (trail : �
   answer : (n number : ℕ) → last_block n number h.lane.taken ≡ last_block n number (entries_of h.trail)
   answer n number = sym (last_tried n number h.lane.taken h.lane.tried grants) ∙ ap (last_block n number) (sym entries)
 
+  -- no entry so far is of a later generation
+  none_later : NoneLater (word 1) (entries_of h.trail)
+  none_later e c = subst (λ n. e.generation ≤ n) (sym g.current) (g.issued h.number few e (issued e c))
+
   pub hart_marks : (kind : HartKind) → Generations (put word (hart_word kind) (becomes (hart_op kind) (word (hart_word kind)))) generation row (put trail h.number (hart_after kind h (word (hart_word kind))).trail)
   hart_marks (kinds.Look ask) = let n : ℕ = word (control_at (ask_place ask)) in
       grows (control_at (ask_place ask)) n (looked ask n (heeded h)).trail (control_apart (ask_place ask)) (glanced_kept generation ask n (lock_bit n == 1) (permits ask (role_in n)) (ask_is_fresh ask n) (heeded h) old)
@@ -85,7 +89,7 @@ module _ (word : ℕ → ℕ) (generation : ℕ) (row : ℕ → Row) (trail : �
   hart_marks (kinds.Accept m e) = grows (state_at m) 0 (h.trail ++ Took e ∷ []) (row_apart m 0) (item (Took e) tt refl)
   hart_marks (kinds.Finish m won) = grows (state_at m) (becomes (hart_op (kinds.Finish m won)) (word (state_at m))) (h.trail ++ Done ∷ []) (row_apart m 0) (item Done tt refl)
   hart_marks (kinds.Generation number) = trails_grow word (put word 1 (word 1)) generation row trail h.number (h.trail ++ ReadGeneration (word 1) number (last_block (word 1) number h.lane.taken) ∷ []) (put_here word 1 (word 1))
-      (reads_push generation h.trail (ReadGeneration (word 1) number (last_block (word 1) number h.lane.taken)) old (answer (word 1) number) (one_read generation (word 1) g.current)) g
+      (reads_push generation h.trail (ReadGeneration (word 1) number (last_block (word 1) number h.lane.taken)) old (answer (word 1) number, none_later) (one_read generation (word 1) g.current)) g
   hart_marks kinds.Listen = grows 0 (word 0) h.trail (λ (e : 0 ≡ 1). omega arith) old
 
 -- ---- the keeper
@@ -152,7 +156,7 @@ module _ (word : ℕ → ℕ) (k : KeeperView) (trail : ℕ → List TrailItem) 
   keeper_marks (keeps.Await m) ready = awaits m (word (state_at m)) (nat_le 8 (word (state_at m))) ready
   keeper_marks (keeps.Ask m) ready = let n : ℕ = word (state_at m) in
       at_row (state_at m) n m (asked n (row_of k m)) (λ (e : state_at m ≡ 1). omega arith) ready.0 (asked_issued (eqb (n % 8) 3) (eqb (n % 8) 4) (eqb (n % 8) 5) (row_of k m))
-  keeper_marks (keeps.Saw d) ready = aside (value_at d) (word (value_at d)) (λ (e : value_at d ≡ 1). omega arith)
+  keeper_marks (keeps.Saw d m) ready = aside (value_at d) (word (value_at d)) (λ (e : value_at d ≡ 1). omega arith)
   keeper_marks (keeps.Fill m i x) ready = at_row (row_at m (index_of i)) x m (with_field i x (row_of k m)) (λ (e : row_at m (index_of i) ≡ 1). omega arith) ready.1.0 (field_issued i x (row_of k m))
   keeper_marks (keeps.Hand m mark) ready = pushed mark m mark (handed mark (row_of k m)) ready.1.0 refl ready.5
   keeper_marks (keeps.Open m) ready = pushed 3 m 3 (opened (row_of k m)) ready.1.0 refl (subst (λ n. n ≤ k.generation) (sym ready.4) (omega arith))

@@ -1,13 +1,17 @@
 -- Who the seats are, over steps.
-use Rattle.std.proofs.Common.{◌≡◌, ◌≢◌, ⊎_elim, inl, inr, ℕ, zero, suc, ◌≤◌, ◌<◌, Bool, true, false, eqb, nat_le, List, [], ◌∷◌, ◌++◌, append_assoc, append-nil, length, length-set, map, set, Some, None, refl, sym, ap, subst, ◌∙◌, arith, slice_get, slice_index_or, ◌%◌}
+use Rattle.std.proofs.Common.{◌≡◌, ◌≢◌, ⊎_elim, inl, inr, ℕ, zero, suc, ◌≤◌, ◌<◌, Bool, true, false, eqb, nat_le, List, [], ◌∷◌, ◌++◌, append_assoc, append-nil, length, length-set, map, set, Option, Some, None, refl, sym, ap, subst, ◌∙◌, arith, slice_get, slice_index_or, ◌%◌}
 use mathlib.Core.Logic.{dite}
 use native.Mathlib.Decide.{ℕ_discrete}
 use mathlib.Core.Option.{some, some-injective, some-ne-none}
 use lib.ListN.{get_elem?}
 use Rattle.atomic_table.proofs.Lists.{at_set, set_else}
 use Rattle.history_event.specs.declared.event.Event.{Event}
+use Rattle.word_rule.specs.declared.entry.Grant.{Grant}
+use Rattle.word_rule.specs.declared.entry.RowWord.{RowWord}
 use Rattle.word_rule.specs.declared.kind.KeeperKind.{KeeperKind}
 use Rattle.word_rule.specs.declared.kind.KeeperKind.TheVariants as kinds
+use Rattle.word_rule.specs.declared.view.Fate.{Fate}
+use Rattle.word_rule.specs.declared.view.Fate.TheVariants.{Won, Lost}
 use Rattle.word_rule.specs.declared.view.HartView.{HartView}
 use Rattle.word_rule.specs.declared.view.KeeperView.{KeeperView}
 use Rattle.word_rule.specs.declared.view.Row.{Row}
@@ -18,11 +22,10 @@ use Rattle.word_rule.specs.declared.view.View.TheVariants.{Keeper, Hart, Note, S
 use Rattle.word_rule.specs.Layout.{harts_at_most}
 use Rattle.word_rule.specs.Views.{BeginsWith, IsLong, put, no_row, row_of, with_field, entry_of}
 use Rattle.word_rule.specs.KeeperSteps.{KeeperReady, asked, asked_if, awaited_if, handed, heeding, keeper_after, keeper_word, keeps_if, not_found, opened, settled_as}
-use Rattle.word_rule.specs.Seats.{Fits, Heard, HartFits, Issued, Seats}
+use Rattle.word_rule.specs.Seats.{Fits, GoesOn, Heard, HartFits, Issued, Seats}
 use Rattle.word_rule.specs.Lemmas.Put.{put_here, put_else, put_each, set_put}
 use Rattle.word_rule.specs.Lemmas.KeeperCalls.{map_row, map_long}
-use Rattle.word_rule.specs.Lemmas.Rows.{field_issued}
-use Rattle.word_rule.specs.Lemmas.Marks.{asked_issued}
+use Rattle.word_rule.specs.Lemmas.Rows.{field_issued, field_since}
 
 -- ---- lists
 
@@ -39,6 +42,51 @@ begins_on xs ys zs a b = (b.0 ++ a.0, a.1 ∙ (ap (λ l. l ++ a.0) b.1 ∙ appen
 
 begins_push : {A : Type 0} (xs : List A) (x : A) → BeginsWith (xs ++ x ∷ []) xs
 begins_push xs x = (x ∷ [], refl)
+
+-- of three lists of which each begins the next the one between is the first where the last is
+no_more : {A : Type 0} (xs more : List A) → xs ++ more ≡ xs → more ≡ []
+no_more [] more same = same
+no_more (x ∷ xs) more same = no_more xs more (let tails : x ∷ (xs ++ more) ≡ x ∷ xs = same in cc)
+
+between : {A : Type 0} (xs ys zs : List A) → BeginsWith zs ys → BeginsWith ys xs → zs ≡ xs → ys ≡ xs
+between {A} xs ys zs b a same = a.1 ∙ (ap (λ l. xs ++ l) (front a.0 b.0 (no_more xs (a.0 ++ b.0) (sym (append_assoc xs a.0 b.0) ∙ (ap (λ l. l ++ b.0) (sym a.1) ∙ (sym b.1 ∙ same))))) ∙ append-nil xs)
+  where
+    front : (first second : List A) → first ++ second ≡ [] → first ≡ []
+    front [] second none = refl
+    front (x ∷ first) second none = let no : x ∷ (first ++ second) ≡ [] = none in absurd (cc)
+
+pushed_apart : {A : Type 0} (xs : List A) (x : A) → xs ++ x ∷ [] ≡ xs → ⊥
+pushed_apart xs x same = let no : x ∷ [] ≡ [] = no_more xs (x ∷ []) same in absurd (cc)
+
+-- ---- a row over time
+
+pub goes_itself : (r : Row) → GoesOn r r
+goes_itself r = record { issued = begins_itself r.issued; lazy = λ none same. (none, refl) }
+
+goes_on : (r s t : Row) → GoesOn s t → GoesOn r s → GoesOn r t
+goes_on r s t b a = record {
+  issued = begins_on t.issued s.issued r.issued b.issued a.issued;
+  lazy = λ none same.
+      let mid : s.issued ≡ r.issued = between r.issued s.issued t.issued b.issued a.issued same in
+      let late = b.lazy none (same ∙ sym mid) in
+      let early = a.lazy late.0 mid in (early.0, late.1 ∙ early.1);
+}
+
+settled_on : (f : Fate) (p : Option Grant) (r : Row) → GoesOn r (settled_as f p r)
+settled_on f None r = goes_itself r
+settled_on f (Some g) r = record { issued = begins_itself r.issued; lazy = λ none same. (none, refl) }
+
+asked_on : (a b c : Bool) (r : Row) → GoesOn r (asked_if a b c r)
+asked_on true b c r = record { issued = begins_itself r.issued; lazy = λ none same. (none, refl) }
+asked_on false true c r = settled_on Won r.pending r
+asked_on false false true r = settled_on Lost r.pending r
+asked_on false false false r = goes_itself r
+
+filled_on : (c : ℕ) (i : RowWord) (x : ℕ) (r : Row) → r.since ≡ Some c → GoesOn r (with_field i x r)
+filled_on c i x r since = record {
+  issued = subst (λ l. BeginsWith l r.issued) (sym (field_issued i x r)) (begins_itself r.issued);
+  lazy = λ none same. let no : Some c ≡ None = sym since ∙ (sym (field_since i x r) ∙ none) in absurd (cc);
+}
 
 -- a hart's seat isn't the keeper's
 pub no_keeper : (views : List View) (k : KeeperView) (keeper seat : ℕ) (h : HartView) → get_elem? views keeper ≡ some (Keeper k) → get_elem? views seat ≡ some (Hart h) → seat ≢ keeper
@@ -107,7 +155,7 @@ pub record Grows (k k' : KeeperView) : Type 0 where
   pub rows : length k'.rows ≡ length k.rows
   pub events : BeginsWith k'.events k.events
   pub generation : k.generation ≤ k'.generation
-  pub issued : (m : ℕ) → BeginsWith (row_of k' m).issued (row_of k m).issued
+  pub on : (m : ℕ) → GoesOn (row_of k m) (row_of k' m)
 
 pub keeper_seats : (views : List View) (k k' : KeeperView) (keeper : ℕ) (seat_of : ℕ → ℕ) (hart : ℕ → HartView) → Seats views k keeper seat_of hart → Grows k k' → Seats (set views keeper (Keeper k')) k' keeper seat_of hart
 keeper_seats views k k' keeper seat_of hart s g = record {
@@ -131,10 +179,10 @@ keeper_seats views k k' keeper seat_of hart s g = record {
   where
     issued_on : (slip : Slip) → Issued k slip → Issued k' slip
     issued_on (OfHart m es read) i = (
-      begins_on (row_of k' m).issued (row_of k m).issued es (g.issued m) i.0,
+      begins_on (row_of k' m).issued (row_of k m).issued es (g.on m).issued i.0,
       λ n c. let low : n ≤ k.generation = i.1 n c in let up : k.generation ≤ k'.generation = g.generation in omega arith,
     )
-    issued_on (OfKeeper rows) i = λ m. begins_on (row_of k' m).issued (row_of k m).issued (slice_index_or rows m no_row).issued (g.issued m) (i m)
+    issued_on (OfKeeper rows) i = λ m. goes_on (slice_index_or rows m no_row) (row_of k m) (row_of k' m) (g.on m) (i m)
 
     others : (seat : ℕ) (v : View) → seat ≢ keeper → Fits k keeper seat_of hart seat v → Fits k' keeper seat_of hart seat v
     others seat (Keeper x) other f = absurd (other f.1)
@@ -156,13 +204,13 @@ plain k k' harts joined note words rows events generation = record {
   rows = ap length rows;
   events = subst (λ l. BeginsWith l k.events) (sym events) (begins_itself k.events);
   generation = generation;
-  issued = λ m. subst (λ l. BeginsWith (slice_index_or l m no_row).issued (row_of k m).issued) (sym rows) (begins_itself (row_of k m).issued);
+  on = λ m. subst (λ l. GoesOn (row_of k m) (slice_index_or l m no_row)) (sym rows) (goes_itself (row_of k m));
 }
 
--- one row's issued entries grow
-row_grows : (k : KeeperView) (rows : List Row) (m : ℕ) (r : Row) → m < length rows → length rows ≡ length k.rows → ((j : ℕ) → (row_of k j).issued ≡ (slice_index_or rows j no_row).issued)
-    → BeginsWith r.issued (row_of k m).issued → Grows k (record (heeding k) { rows = set rows m r })
-row_grows k rows m r low long same more = record {
+-- one row goes on
+row_grows : (k : KeeperView) (rows : List Row) (m : ℕ) (r : Row) → m < length rows → length rows ≡ length k.rows → ((j : ℕ) → GoesOn (row_of k j) (slice_index_or rows j no_row))
+    → GoesOn (row_of k m) r → Grows k (record (heeding k) { rows = set rows m r })
+row_grows k rows m r low long others more = record {
   harts = refl;
   joined = refl;
   note = refl;
@@ -170,8 +218,8 @@ row_grows k rows m r low long same more = record {
   rows = length-set rows m r ∙ long;
   events = begins_itself k.events;
   generation = omega arith;
-  issued = λ j. subst (λ (f : ℕ → Row). BeginsWith (f j).issued (row_of k j).issued) (set_put rows m r no_row low)
-      (put_each (λ j (y : Row). BeginsWith y.issued (row_of k j).issued) (λ j. slice_index_or rows j no_row) m r (λ j _. subst (λ l. BeginsWith l (row_of k j).issued) (same j) (begins_itself (row_of k j).issued)) more j);
+  on = λ j. subst (λ (f : ℕ → Row). GoesOn (row_of k j) (f j)) (set_put rows m r no_row low)
+      (put_each (λ j (y : Row). GoesOn (row_of k j) y) (λ j. slice_index_or rows j no_row) m r (λ j _. others j) more j);
 }
 
 kept_grows : (d : ℕ) (b : Bool) (k : KeeperView) → Grows k (keeps_if d b (heeding k))
@@ -181,23 +229,26 @@ kept_grows d false k = plain k (keeps_if d false (heeding k)) refl refl refl ref
 awaited_grows : (m : ℕ) (b : Bool) (k : KeeperView) → m < length k.rows → Grows k (awaited_if m b (heeding k))
 awaited_grows m false k low = plain k (heeding k) refl refl refl refl refl refl (omega arith)
 awaited_grows m true k low = row_grows k (map not_found k.rows) m (record (not_found (row_of k m)) { since = Some (length k.events) }) (subst (λ n. m < n) (sym (map_long k.rows)) low) (map_long k.rows)
-    (λ j. ap (λ (r : Row). r.issued) (map_row k.rows j)) (begins_itself (row_of k m).issued)
+    (λ j. subst (GoesOn (row_of k j)) (map_row k.rows j) (record { issued = begins_itself (row_of k j).issued; lazy = λ none same. (none, refl) }))
+    (record { issued = begins_itself (row_of k m).issued; lazy = λ none same. let no : Some (length k.events) ≡ None = none in absurd (cc) })
 
 pub keeper_grows : (kind : KeeperKind) (k : KeeperView) (n : ℕ) → length k.rows ≡ harts_at_most → KeeperReady kind k → Grows k (keeper_after kind k n)
 keeper_grows (kinds.Look d) k n long ready = plain k (keeper_after (kinds.Look d) k n) refl refl refl refl refl refl (omega arith)
 keeper_grows (kinds.Load d) k n long ready = plain k (keeper_after (kinds.Load d) k n) refl refl refl refl refl refl (omega arith)
-keeper_grows (kinds.Lock d control) k n long ready = let g = kept_grows d (eqb n control) k in record { harts = g.harts; joined = g.joined; note = g.note; words = g.words; rows = g.rows; events = g.events; generation = g.generation; issued = g.issued }
+keeper_grows (kinds.Lock d control) k n long ready = let g = kept_grows d (eqb n control) k in record { harts = g.harts; joined = g.joined; note = g.note; words = g.words; rows = g.rows; events = g.events; generation = g.generation; on = g.on }
 keeper_grows (kinds.Store d x) k n long ready = plain k (keeper_after (kinds.Store d x) k n) refl refl refl (length-set k.words d _) refl refl (omega arith)
 keeper_grows (kinds.Unlock d old new lazy) k n long ready = plain k (keeper_after (kinds.Unlock d old new lazy) k n) refl refl refl (length-set k.words d _) refl refl (omega arith)
-keeper_grows (kinds.Count e) k n long ready = record { harts = refl; joined = refl; note = refl; words = refl; rows = refl; events = begins_push k.events e.value; generation = omega arith; issued = λ m. begins_itself (row_of k m).issued }
+keeper_grows (kinds.Count e) k n long ready = record { harts = refl; joined = refl; note = refl; words = refl; rows = refl; events = begins_push k.events e.value; generation = omega arith; on = λ m. goes_itself (row_of k m) }
 keeper_grows (kinds.Await m) k n long ready = awaited_grows m (nat_le 8 n) k (subst (λ x. m < x) (sym long) ready)
-keeper_grows (kinds.Ask m) k n long ready = row_grows k k.rows m (asked n (row_of k m)) (subst (λ x. m < x) (sym long) ready.0) refl (λ j. refl)
-    (subst (λ l. BeginsWith l (row_of k m).issued) (sym (asked_issued (eqb (n % 8) 3) (eqb (n % 8) 4) (eqb (n % 8) 5) (row_of k m))) (begins_itself (row_of k m).issued))
-keeper_grows (kinds.Saw d) k n long ready = plain k (keeper_after (kinds.Saw d) k n) refl refl refl (length-set k.words d _) refl refl (omega arith)
-keeper_grows (kinds.Fill m i x) k n long ready = row_grows k k.rows m (with_field i x (row_of k m)) (subst (λ x. m < x) (sym long) ready.1.0) refl (λ j. refl)
-    (subst (λ l. BeginsWith l (row_of k m).issued) (sym (field_issued i x (row_of k m))) (begins_itself (row_of k m).issued))
-keeper_grows (kinds.Hand m mark) k n long ready = row_grows k k.rows m (handed mark (row_of k m)) (subst (λ x. m < x) (sym long) ready.1.0) refl (λ j. refl) (begins_push (row_of k m).issued (entry_of mark (row_of k m)))
-keeper_grows (kinds.Open m) k n long ready = row_grows k k.rows m (opened (row_of k m)) (subst (λ x. m < x) (sym long) ready.1.0) refl (λ j. refl) (begins_push (row_of k m).issued (entry_of 3 (row_of k m)))
+keeper_grows (kinds.Ask m) k n long ready = row_grows k k.rows m (asked n (row_of k m)) (subst (λ x. m < x) (sym long) ready.0) refl (λ j. goes_itself (row_of k j))
+    (asked_on (eqb (n % 8) 3) (eqb (n % 8) 4) (eqb (n % 8) 5) (row_of k m))
+keeper_grows (kinds.Saw d m) k n long ready = plain k (keeper_after (kinds.Saw d m) k n) refl refl refl (length-set k.words d _) refl refl (omega arith)
+keeper_grows (kinds.Fill m i x) k n long ready = row_grows k k.rows m (with_field i x (row_of k m)) (subst (λ x. m < x) (sym long) ready.1.0) refl (λ j. goes_itself (row_of k j))
+    (filled_on ready.0 i x (row_of k m) ready.1.1)
+keeper_grows (kinds.Hand m mark) k n long ready = row_grows k k.rows m (handed mark (row_of k m)) (subst (λ x. m < x) (sym long) ready.1.0) refl (λ j. goes_itself (row_of k j))
+    (record { issued = begins_push (row_of k m).issued (entry_of mark (row_of k m)); lazy = λ none same. absurd (pushed_apart (row_of k m).issued (entry_of mark (row_of k m)) same) })
+keeper_grows (kinds.Open m) k n long ready = row_grows k k.rows m (opened (row_of k m)) (subst (λ x. m < x) (sym long) ready.1.0) refl (λ j. goes_itself (row_of k j))
+    (record { issued = begins_push (row_of k m).issued (entry_of 3 (row_of k m)); lazy = λ none same. absurd (pushed_apart (row_of k m).issued (entry_of 3 (row_of k m)) same) })
 keeper_grows (kinds.RetireSlot d) k n long ready = plain k (keeper_after (kinds.RetireSlot d) k n) refl refl refl (length-set k.words d _) refl refl (omega arith)
 keeper_grows (kinds.Retire d old) k n long ready = plain k (keeper_after (kinds.Retire d old) k n) refl refl refl (length-set k.words d _) refl refl (omega arith)
 keeper_grows (kinds.Generation g) k n long ready = let up : k.generation < g = ready in plain k (keeper_after (kinds.Generation g) k n) refl refl refl refl refl refl (omega arith)

@@ -26,7 +26,7 @@ use Rattle.word_rule.specs.KeeperSteps.{HasEnded, HasTakenAll, KeeperReady, Keep
 use Rattle.word_rule.specs.Seats.{Fits, Seats}
 use Rattle.word_rule.specs.Words.{Words}
 use Rattle.word_rule.specs.Calls.{Calls, Rests, RowIs, Stage, Still}
-use Rattle.word_rule.specs.Slots.{Slots}
+use Rattle.word_rule.specs.Slots.{AreLosses, Slots}
 use Rattle.word_rule.specs.Generations.{Generations}
 use Rattle.word_rule.specs.Rule.{HartKeeps, KeeperKeeps, Parts}
 use Rattle.word_rule.specs.Lemmas.Put.{put_field, set_put}
@@ -37,9 +37,11 @@ use Rattle.word_rule.specs.Lemmas.HartCalls.{again_tells, hart_calls, arrive_tel
 use Rattle.word_rule.specs.Lemmas.KeeperCalls.{keeper_calls, waiting}
 use Rattle.word_rule.specs.Lemmas.HartSlots.{aims_at, find_tells, hart_slots}
 use Rattle.word_rule.specs.Lemmas.KeeperSlots.{keeper_slots, ask_tells, decides, saw_tells}
+use Rattle.word_rule.specs.Lemmas.Losses.{exchanges_grow, hart_losses, keeper_losses}
 use Rattle.word_rule.specs.Lemmas.Marks.{hart_marks, keeper_marks}
+use Rattle.word_rule.specs.Lemmas.Owners.{trails_grow}
 use Rattle.word_rule.specs.Lemmas.Rows.{low_rest}
-use Rattle.word_rule.specs.Lemmas.Knowing.{known_begins}
+use Rattle.word_rule.specs.Lemmas.Knowing.{entries_begin, known_begins}
 use Rattle.word_rule.specs.Lemmas.Seating.{hart_seats, heard_on, heard_more, keeper_grows, keeper_seats}
 
 -- ---- a hart's view after a step
@@ -120,6 +122,12 @@ module _ (word : ℕ → ℕ) (kept : KeeperView) (harts : ℕ → HartView) (p 
   grants : (x : Exchange) → h.lane.tried ≡ Some x → x.grant.entry.mark ≡ 3
   grants x e = ap (λ (g : Grant). g.entry.mark) ((tried_if (word (state_at h.number)) (row_of kept h.number) h.lane x e h.lane.calling row_is.stage).tried x e).1
 
+  -- the entries of its trail were issued to it
+  issued : (e : Entry) → Contains (entries_of h.trail) e → Contains (row_of kept h.number).issued e
+  issued e c =
+      let more = entries_begin word (length kept.events) h.number (row_of kept h.number) h.lane (entries_of h.trail) row_is in
+      subst (λ es. Contains es e) (sym more.1) (Contains-append_left (entries_of h.trail) more.0 e c)
+
   writable : (d : ℕ) → h.access.locked ≡ Some d → (kept_at kept d).role ≡ Rattle.ld_base.specs.declared.linking.Role.TheVariants.Rw
   writable d e = p.locks.only_rw h.number d (ap (λ (x : HartView). x.access.locked) is ∙ e)
 
@@ -162,8 +170,11 @@ module _ (word : ℕ → ℕ) (kept : KeeperView) (harts : ℕ → HartView) (p 
         (λ i. (put_field (λ (x : HartView). x.lane.tried) harts h.number h' i, put_field (λ (x : HartView). exchanges_of x.trail) harts h.number h' i))
         (hart_slots word (kept_at kept) kept.access.locked (length kept.events) (row_of kept) (after (λ (x : HartView). x.lane.tried) harts) (after (λ (x : HartView). exchanges_of x.trail) harts) p.slots
         h few (ap (λ (x : HartView). x.lane.tried) is) (ap (λ (x : HartView). exchanges_of x.trail) is) (entries_of h.trail) row_is writable kind ready);
+    losses = subst (λ (f : ℕ → List Exchange). AreLosses kept.losses f) (put_field (λ (x : HartView). exchanges_of x.trail) harts h.number h')
+        (hart_losses kept.losses (after (λ (x : HartView). exchanges_of x.trail) harts) h.number (exchanges_of h'.trail)
+        (λ x c. exchanges_grow h.trail h'.trail (trails_grow.of_hart kind h (word (hart_word kind))) x (subst (λ (y : HartView). Contains (exchanges_of y.trail) x) is c)) p.losses);
     generations = subst (λ (f : ℕ → List TrailItem). Generations word' kept.generation (row_of kept) f) (put_field (λ (x : HartView). x.trail) harts h.number h')
-        (hart_marks word kept.generation (row_of kept) (after (λ (x : HartView). x.trail) harts) p.generations h few (ap (λ (x : HartView). x.trail) is) row_is.trail grants kind);
+        (hart_marks word kept.generation (row_of kept) (after (λ (x : HartView). x.trail) harts) p.generations h few (ap (λ (x : HartView). x.trail) is) row_is.trail grants issued kind);
   }
     where
       h' : HartView
@@ -211,7 +222,7 @@ module _ (word : ℕ → ℕ) (k : KeeperView) (harts : ℕ → HartView) (p : P
   keeper_low (keeps.Count e) ready = omega arith
   keeper_low (keeps.Await m) ready = row_low m 0 ready (omega arith)
   keeper_low (keeps.Ask m) ready = row_low m 0 ready.0 (omega arith)
-  keeper_low (keeps.Saw d) ready = value_low d ready.0
+  keeper_low (keeps.Saw d m) ready = value_low d ready.2.0.0
   keeper_low (keeps.Fill m i x) ready = row_low m (index_of i) ready.1.0 (low_index i)
   keeper_low (keeps.Hand m mark) ready = row_low m 0 ready.1.0 (omega arith)
   keeper_low (keeps.Open m) ready = row_low m 0 ready.1.0 (omega arith)
@@ -230,6 +241,7 @@ module _ (word : ℕ → ℕ) (k : KeeperView) (harts : ℕ → HartView) (p : P
     locks = keeper_locks word k (after (λ (x : HartView). x.access) harts) p.locks words_known kind small ready;
     calls = keeper_calls word k (after (λ (x : HartView). x.lane) harts) (after (λ (x : HartView). entries_of x.trail) harts) p.calls rows_known kind ready;
     slots = keeper_slots word k (after (λ (x : HartView). x.lane.tried) harts) (after (λ (x : HartView). exchanges_of x.trail) harts) p.slots words_known rows_known place p.locks.keepers.held still kind ready;
+    losses = keeper_losses word k (after (λ (x : HartView). x.lane.tried) harts) (after (λ (x : HartView). exchanges_of x.trail) harts) p.slots words_known rows_known p.losses kind ready;
     generations = keeper_marks word k (after (λ (x : HartView). x.trail) harts) p.generations rows_known kind ready;
   }
 
@@ -241,17 +253,18 @@ module _ (word : ℕ → ℕ) (k : KeeperView) (harts : ℕ → HartView) (p : P
       let r : RowIs word (length k.events) m (row_of k m) j.lane (entries_of j.trail) = subst (λ (x : HartView). RowIs word (length k.events) m (row_of k m) x.lane (entries_of x.trail)) is (p.calls.each_row m few) in
       let st : Rests (word (state_at m)) × Still (row_of k m) j.lane = subst (Stage (word (state_at m)) (row_of k m) j.lane) e.2 r.stage in (is, st.0, st.1)
 
-  taken_all : (m : ℕ) → m < harts_at_most → ((i : ℕ) (j : HartView) → slice_get k.joined i ≡ Some j → harts j.number ≡ j) → (j : HartView) → HasEnded k m j → HasTakenAll (row_of k m) (word (state_at m)) j
+  taken_all : (m : ℕ) → m < harts_at_most → ((i : ℕ) (j : HartView) → slice_get k.joined i ≡ Some j → harts j.number ≡ j) → (j : HartView) → HasEnded k m j → HasTakenAll k m (word (state_at m)) j
   taken_all m few gone j e =
       let st = ended m few gone j e in
       let r : RowIs word (length k.events) m (row_of k m) j.lane (entries_of j.trail) = subst (λ (x : HartView). RowIs word (length k.events) m (row_of k m) x.lane (entries_of x.trail)) st.0 (p.calls.each_row m few) in
       let g = p.slots.each_hart m few in
-      subst (λ (x : HartView). HasTakenAll (row_of k m) (word (state_at m)) x) st.0 (record {
+      subst (λ (x : HartView). HasTakenAll k m (word (state_at m)) x) st.0 (record {
         taken = ap (λ (x : HartView). x.lane.taken) st.0 ∙ st.2.all;
         entries = subst (λ (x : HartView). entries_of x.trail ≡ x.lane.taken) (sym st.0) (r.trail ∙ (ap (λ t. j.lane.taken ++ Rattle.word_rule.specs.Views.tried_entry t) st.2.no_try ∙ Rattle.std.proofs.Common.append-nil j.lane.taken));
         idle = low_rest (word (state_at m)) st.1;
         won = g.won;
         lost = g.lost;
+        found = λ x there own. subst (λ n. Contains (exchanges_of (harts n).trail) x.exchange) own (p.losses x there);
         granted = g.granted;
         rising = g.rising;
         kept = p.generations.kept m few;
@@ -271,7 +284,7 @@ module _ (word : ℕ → ℕ) (k : KeeperView) (harts : ℕ → HartView) (p : P
   keeper_tells gone told (keeps.Await m) ready = (taken_all m ready gone, decides word k (after (λ (x : HartView). x.lane.tried) harts) (after (λ (x : HartView). exchanges_of x.trail) harts) p.slots words_known rows_known)
   keeper_tells gone told (keeps.Ask m) ready = ask_tells word k (after (λ (x : HartView). x.lane.tried) harts) (after (λ (x : HartView). exchanges_of x.trail) harts) p.slots words_known rows_known m
       (λ c since. awaited (word (state_at m)) ((p.calls.each_row m ready.0).known c since).awaits) (λ j e. closed (word (state_at m)) (ended m ready.0 gone j e).1) ready
-  keeper_tells gone told (keeps.Saw d) ready = saw_tells word k (after (λ (x : HartView). x.lane.tried) harts) (after (λ (x : HartView). exchanges_of x.trail) harts) p.slots words_known rows_known d ready
+  keeper_tells gone told (keeps.Saw d m) ready = saw_tells word k (after (λ (x : HartView). x.lane.tried) harts) (after (λ (x : HartView). exchanges_of x.trail) harts) p.slots words_known rows_known d m ready
   keeper_tells gone told (keeps.Recall m i) ready = (p.calls.each_row m ready).fields i
   keeper_tells gone told keeps.RecallGeneration ready = p.generations.current
   keeper_tells gone told (keeps.RecallRole d) ready = (p.locks.each_word d ready).role

@@ -4,7 +4,6 @@ use native.Mathlib.Decide.{ℕ_discrete}
 use Rattle.word_rule.specs.declared.view.HartView.{HartView}
 use Rattle.word_rule.specs.declared.view.KeeperView.{KeeperView}
 use Rattle.word_rule.specs.KeeperSteps.{HasEnded, HasTakenAll}
-use Rattle.word_rule.specs.Views.{row_of}
 use Rattle.link_keeper.specs.Joining.{AreDecided}
 use Rattle.link_keeper.proofs.finishing.look_over.Goals as goal
 
@@ -18,9 +17,9 @@ loop-number-preserved g c = record {
   same = c.look_at.ensures.same ∙ c.loop-number.invariant.same;
   taken = λ m j low ended. dite (ℕ_discrete m c.loop-number.number)
       (λ (here : m ≡ c.loop-number.number).
-      subst (λ (n : ℕ). HasEnded c.args.keeper.now n j → (state : ℕ) × HasTakenAll (row_of c.args.keeper.now n) state j) (sym here)
-      (subst (λ (k : KeeperView). HasEnded k c.loop-number.number j → (state : ℕ) × HasTakenAll (row_of k c.loop-number.number) state j) c.loop-number.invariant.same
-      (subst (λ (n : ℕ). HasEnded c.loop-number.keeper n j → (state : ℕ) × HasTakenAll (row_of c.loop-number.keeper n) state j) c.new.ensures (c.look_at.ensures.taken j))) ended)
+      subst (λ (n : ℕ). HasEnded c.args.keeper.now n j → (state : ℕ) × HasTakenAll c.args.keeper.now n state j) (sym here)
+      (subst (λ (k : KeeperView). HasEnded k c.loop-number.number j → (state : ℕ) × HasTakenAll k c.loop-number.number state j) c.loop-number.invariant.same
+      (subst (λ (n : ℕ). HasEnded c.loop-number.keeper n j → (state : ℕ) × HasTakenAll c.loop-number.keeper n state j) c.new.ensures (c.look_at.ensures.taken j))) ended)
       (λ (apart : m ≢ c.loop-number.number). c.loop-number.invariant.taken m j (omega (arith, low, apart)) ended);
   decided = λ _. subst AreDecided c.loop-number.invariant.same c.look_at.ensures.decided;
 }
