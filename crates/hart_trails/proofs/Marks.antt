@@ -134,9 +134,11 @@ leaves_once past h b beside did items before (Leaves.entries called e rest read 
     (both (map Call (items_left in_memory called)) (took_behind past (e ∷ rest)) (calls_are (items_left in_memory called)) (took_are past (e ∷ rest))))
 leaves_once past h b beside did items before (Leaves.answers l read at reads) is kept =
     let parts = kept_parts before read (Took (block_entry past l) ∷ []) kept in
-    once_joined before read (Took (block_entry past l) ∷ []) (unmarked before read (reads_are (after past) b read reads))
-    ((λ _. subst (λ (es : List Entry). last_block (after past).generation l.number es ≡ None) (no_entries read reads)
-    (unknown (after past) b read before (after (past ++ [])) h l reads parts.0 (sym (ap (λ (x : Beside). x.located) is) ∙ at))), tt)
+    once_joined before read (Took (block_entry past l) ∷ []) (unmarked before read (reads_are (after past) b read reads)) (
+      (λ _. subst (λ (es : List Entry). last_block (after past).generation l.number es ≡ None) (no_entries read reads)
+          (unknown (after past) b read before (after (past ++ [])) h l reads parts.0 (sym (ap (λ (x : Beside). x.located) is) ∙ at))),
+      tt,
+    )
   where
     no_entries : (read : List TrailItem) → Reads (after past) b read → before ≡ before ++ entries_of read
     no_entries read (Reads.is_another none) = sym (append-nil before)

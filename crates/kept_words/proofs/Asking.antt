@@ -363,7 +363,7 @@ asked_kept won lost w begun k h state g (asked.Lost found) accepts kept low pend
     })
     (IsFateEvent.as_lost found) (k.losses ++ loss ∷ []) (λ x there. Contains-append_left k.losses (loss ∷ []) x there)
     (λ n word is. let q : events.Lost (number_in k.events h g) found ≡ events.Lost n word = is in let same : found ≡ word = cc in
-        subst (λ (y : ℕ). Contains (k.losses ++ loss ∷ []) (record { hart = h; exchange = record { grant = g; found = y } })) same (Contains-append_right k.losses (loss ∷ []) loss (here loss []))))
+    subst (λ (y : ℕ). Contains (k.losses ++ loss ∷ []) (record { hart = h; exchange = record { grant = g; found = y } })) same (Contains-append_right k.losses (loss ∷ []) loss (here loss []))))
   where
     loss : Loss
     loss = record { hart = h; exchange = record { grant = g; found = found } }
