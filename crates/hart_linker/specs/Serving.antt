@@ -10,10 +10,11 @@ use Rattle.word_rule.specs.Views.{BeginsWith, NoneAbove, readings_of}
 use Rattle.history_state.specs.After.{after}
 use Rattle.history_state.specs.Allowed.{MayEnd}
 use Rattle.history_state.specs.Setting.{Setting}
+use Rattle.history_state.specs.Slots.{HasNoGrant}
 use Rattle.hart_moves.specs.Due.{Due}
 use Rattle.hart_moves.specs.Follows.{HasNone, Turned, TurnsAt}
 use Rattle.hart_moves.specs.Harts.{HartState}
-use Rattle.hart_moves.specs.Moves.{Did, ended, events_of}
+use Rattle.hart_moves.specs.Moves.{Did, ended, events_of, settles}
 use Rattle.hart_trails.specs.Entries.{entry_behind}
 use Rattle.hart_trails.specs.Trails.{Leaves, Reads}
 use Rattle.hart_fits.specs.Fits.{HartFits}
@@ -41,14 +42,15 @@ is_finalising d = elim d [ Due.finalise code object ↦ true | _ ↦ false ]
 
 -- ---- what came of one
 
--- one turn more, over all events that the hart knows then: none of its own came since it heard of them last; its own stand last; and what the turn
--- leaves in the trail, behind what the hart read for it
+-- one turn more, over all events that the hart knows then: none of its own came since it heard of them last, and its grants are settled before a
+-- service; its own stand last; and what the turn leaves in the trail, behind what the hart read for it
 pub record ServesTurn (w : Setting) (before now : HartView) (b c : HartState) : Type 0 where
   pub same : now.number ≡ before.number
   pub longer : BeginsWith now.heard before.heard
   pub turn : Turned
   pub since : length before.heard ≤ turn.at
   pub none : HasNone now.heard before.number (length before.heard) turn.at
+  pub free : settles turn.did ≡ true → HasNoGrant (after (take turn.at now.heard)) before.number
   pub turns : TurnsAt w now.heard before.number turn b c
   pub last : length now.heard ≡ turn.at + length (events_of turn.did)
   -- no generation that it has read is later than the one behind which the turn comes
@@ -58,12 +60,13 @@ pub record ServesTurn (w : Setting) (before now : HartView) (b c : HartState) : 
   pub leaves : (read : List TrailItem) → Reads (after (take turn.at now.heard)) b read
       → Leaves (take turn.at now.heard) b turn.beside turn.did (read ++ items)
 
--- the end of a turn that ends its hart: its calls of the bus stand in the trail already
+-- the end of a turn that ends its hart: its calls of the bus stand in the trail already, and its grants are settled
 pub record EndsTurn (w : Setting) (before now : HartView) (reason : HartEnd) (b c : HartState) : Type 0 where
   pub same : now.number ≡ before.number
   pub past : List Event
   pub since : BeginsWith past before.heard
   pub none : HasNone past before.number (length before.heard) (length past)
+  pub free : HasNoGrant (after past) before.number
   pub may : MayEnd w (after past) before.number
   pub heard : now.heard ≡ past ++ Ended before.number reason ∷ []
   pub trail : now.trail ≡ before.trail ++ Took (entry_behind past (Ended before.number reason)) ∷ []

@@ -76,6 +76,7 @@ joined_view alike w begun k seats view = record {
       issued = λ m. refl;
       pending = λ m. refl;
       settled = λ m. refl;
+      losses = refl;
     }
 
 pub joins_none : (k : KeeperView) → k ≡ joins [] k
@@ -240,11 +241,20 @@ module _ (over_is : OverIsWhole) (are_true : TrailsAreTrue) (are_exchanges : Fat
     come FateWon m j g there fate = (took m j there).1.won g fate
     come FateLost m j g there fate = (took m j there).1.lost g fate
 
-    exchanged : (n : ℕ) (f : Fate) (e : Event) → Contains k2.events e → IsFateEvent n f e → IsExchangeOf k2.events seats n f
+    exchanged : (n : ℕ) (f : Fate) (e : Event) → Contains k2.events e → IsFateEvent n f e → IsExchangeOf k2.events seats n f e
     exchanged n f e there is =
         let x = are_exchanges w begun k2 n f e view.kept there is in
         let seat = some_seat x.hart (granted_low k2.events own x.hart x.grant x.event) in
-        record { hart = x.hart; view = seat.0; there = seat.1; grant = x.grant; event = x.event; number_is = x.number_is; come = come f x.hart seat.0 x.grant seat.1 x.fate }
+        record {
+          hart = x.hart;
+          view = seat.0;
+          there = seat.1;
+          grant = x.grant;
+          event = x.event;
+          number_is = x.number_is;
+          come = come f x.hart seat.0 x.grant seat.1 x.fate;
+          shown = λ i saw is. (took x.hart seat.0 seat.1).1.found (record { hart = x.hart; exchange = record { grant = x.grant; found = saw } }) (x.shown i saw is) refl;
+        }
 
     pub over : RunIsOver w begun k.events k2.events seats
     over = record {

@@ -167,6 +167,7 @@ keeps_still alike w begun k l view leaves long generation = record {
       issued = λ m. ap (λ (v : KeeperView). (row_of v m).issued) leaves.only;
       pending = λ m. ap (λ (v : KeeperView). (row_of v m).pending) leaves.only;
       settled = λ m. ap (λ (v : KeeperView). (row_of v m).settled) leaves.only;
+      losses = ap (λ (v : KeeperView). v.losses) leaves.only;
     }
 
 -- ---- a turn's events

@@ -3,6 +3,7 @@
 use Rattle.std.specs.Prelude.{◌≡◌, ℕ, List, [], ◌++◌, length, Some, None, Contains}
 use Rattle.std.specs.List.{slice_get}
 use Rattle.history_event.specs.declared.event.Event.{Event}
+use Rattle.history_event.specs.declared.event.Event.TheVariants.{Lost as LostEvent}
 use Rattle.word_rule.specs.declared.entry.Exchange.{Exchange}
 use Rattle.word_rule.specs.declared.entry.Grant.{Grant}
 use Rattle.word_rule.specs.declared.view.Fate.{Fate}
@@ -40,8 +41,8 @@ abbrev pub HasCome : Fate → List Exchange → Grant → Type 0
 HasCome Won exchanges g = HasWon exchanges g
 HasCome Lost exchanges g = HasLost exchanges g
 
--- a grant of this number was won, or lost, by an exchange in the trail of its hart
-pub record IsExchangeOf (journal : List Event) (harts : List HartView) (n : ℕ) (f : Fate) : Type 0 where
+-- a grant of this number was won, or lost, by an exchange in the trail of its hart, which found the word that its event shows
+pub record IsExchangeOf (journal : List Event) (harts : List HartView) (n : ℕ) (f : Fate) (e : Event) : Type 0 where
   pub hart : ℕ
   pub view : HartView
   pub there : slice_get harts hart ≡ Some view
@@ -49,6 +50,7 @@ pub record IsExchangeOf (journal : List Event) (harts : List HartView) (n : ℕ)
   pub event : IsGrantEvent journal hart grant
   pub number_is : number_in journal hart grant ≡ n
   pub come : HasCome f (exchanges_of view.trail) grant
+  pub shown : (i saw : ℕ) → e ≡ LostEvent i saw → Contains (exchanges_of view.trail) (record { grant = grant; found = saw })
 
 -- behind the journal that was, grants are settled that were open still, and nothing else came. All is a legal history and, where the final destructors
 -- have run, a whole one; and each hart's trail says what it says
@@ -61,4 +63,4 @@ pub record RunIsOver (w : Setting) (begun before journal : List Event) (harts : 
   pub own : AreOfHarts w journal
   pub whole : IsFinished w journal → Whole w journal
   pub trails : (h : ℕ) (j : HartView) → slice_get harts h ≡ Some j → TrailIsClosed w begun journal h j
-  pub fates : (n : ℕ) (f : Fate) (e : Event) → Contains journal e → IsFateEvent n f e → IsExchangeOf journal harts n f
+  pub fates : (n : ℕ) (f : Fate) (e : Event) → Contains journal e → IsFateEvent n f e → IsExchangeOf journal harts n f e
