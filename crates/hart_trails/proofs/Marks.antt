@@ -111,7 +111,7 @@ none_of_later loaded generation number (e ∷ es) none up = λ i. later_block (n
     off : (a b c : Bool) → b ≡ false → (a && b && c) ≡ false
     off false b c is = refl
     off true false c is = refl
-    off true true c is = is
+    off true true c is = let no : true ≡ false = is in absurd (cc)
 
     other : is_block generation number e ≡ false
     other = off (e.slot == number) (e.generation == generation) _ (ne_eqb e.generation generation old)
@@ -130,8 +130,8 @@ leaves_once : (past : List Event) (h : ℕ) (b : HartState) (beside : Beside) (d
 leaves_once past h b beside did items before (Leaves.calls called) is kept = unmarked before (map Call (items_left in_memory called)) (calls_are (items_left in_memory called))
 leaves_once past h b beside did items before (Leaves.entries called e rest read reads) is kept =
     unmarked before (read ++ map Call (items_left in_memory called) ++ took_behind past (e ∷ rest))
-    (both read (map Call (items_left in_memory called) ++ took_behind past (e ∷ rest)) (reads_are (after past) b read reads)
-    (both (map Call (items_left in_memory called)) (took_behind past (e ∷ rest)) (calls_are (items_left in_memory called)) (took_are past (e ∷ rest))))
+    (both (read ++ map Call (items_left in_memory called)) (took_behind past (e ∷ rest))
+    (both read (map Call (items_left in_memory called)) (reads_are (after past) b read reads) (calls_are (items_left in_memory called))) (took_are past (e ∷ rest)))
 leaves_once past h b beside did items before (Leaves.answers l read at reads) is kept =
     let parts = kept_parts before read (Took (block_entry past l) ∷ []) kept in
     once_joined before read (Took (block_entry past l) ∷ []) (unmarked before read (reads_are (after past) b read reads)) (
