@@ -263,7 +263,7 @@ module _ (w : Setting) (begun : List Event) (k l : KeeperView) (kept : AreKept w
 
   rows : AreRows (handed_over h entry (counted e mid))
   rows = record {
-    fates = fates_on k (handed_over h entry (counted e mid)) (e ∷ []) refl (settles_none e is.settling) same.pending same.settled (ap (λ (x : KeeperView). x.losses) view.only) kept.rows.fates;
+    fates = fates_on k (handed_over h entry (counted e mid)) (e ∷ []) refl (settles_none e is.settling) same.pending same.settled refl kept.rows.fates;
     since = λ d slot. ⊎_elim
         (λ (new : (kept_at l d).since ≡ length k.events). let all : length (k.events ++ e ∷ []) ≡ length k.events + 1 = longer in omega (arith, new, all))
         (λ (old : kept_at l d ≡ kept_at k d).
