@@ -1,18 +1,23 @@
 -- Where a hart of a run stands between two turns, and how turns bring it on. For the loop of a hart, and for whoever starts it.
-use Rattle.std.specs.Prelude.{◌≡◌, false, List, Some, IsSome}
+use Rattle.std.specs.Prelude.{◌≡◌, ◌⊎◌, false, List, Some, IsSome}
+use Rattle.std.specs.List.{list_any}
 use Rattle.history_event.specs.declared.event.Event.{Event}
 use Rattle.history_event.specs.declared.hart_end.HartEnd.{HartEnd}
 use Rattle.word_rule.specs.declared.view.HartView.{HartView}
 use Rattle.word_rule.specs.Views.{BeginsWith, IsLane}
 use Rattle.history_state.specs.Setting.{Setting}
 use Rattle.tls_blocks.specs.Blocks.{BlockTable}
-use Rattle.hart_moves.specs.Harts.{HartState}
+use Rattle.hart_moves.specs.Harts.{HartState, is_startup_frame}
 use Rattle.hart_linker.specs.Between.{Hears, IsBetweenTurns}
 use Rattle.hart_threads.specs.Turns.{Proceeds}
 
 -- a hart that has ended isn't calling
 abbrev pub IsCalm : HartView → HartState → Type 0
 IsCalm seat b = (reason : HartEnd) → b.«end» ≡ Some reason → seat.lane.calling ≡ false
+
+-- its constructors of startup are over, or it has ended
+abbrev pub HasStarted : HartState → Type 0
+HasStarted b = (list_any is_startup_frame b.frames ≡ false) ⊎ IsSome b.«end»
 
 -- it went on, and stands between two turns again
 pub record RunsOn (w : Setting) (begun : List Event) (before now : HartView) (b c : HartState) (kept : BlockTable) : Type 0 where

@@ -4,7 +4,7 @@ ghost use Rattle.std.specs.Prelude.{◌≡◌, ◌<◌, ◌≤◌, ℕ, false, A
 ghost use Rattle.hart_moves.specs.Starting.{HartStart, starting_registers};
 ghost use Rattle.hart_linker.specs.Between.{HasHeard, Hears};
 ghost use Rattle.hart_threads.specs.Ends.{IsAtStart, IsNewAt, IsThrough, RanWhole};
-ghost use Rattle.hart_threads.specs.Run.{IsReady, IsTold, RunsOn, RunsToEnd};
+ghost use Rattle.hart_threads.specs.Run.{HasStarted, IsReady, IsTold, RunsOn, RunsToEnd};
 ghost use Rattle.hart_threads.specs.Turns.{RunsBy};
 ghost use Rattle.word_rule.specs.Views.{BeginsWith, IsLane};
 ghost use Rattle.word_rule.specs.declared.view.TrailItem.{TrailItem};
@@ -34,14 +34,15 @@ fn run_one<R: Wait, J: Opening, K: Linker<J>>(
     run.run(rt, linker, memory);
 }
 
-/// Runs harts side by side, each until it has ended.
+/// Runs harts side by side, each until it has ended. The first one's constructors of startup are over.
 fn run_all<R: Threads + Wait + Sync, J: Opening + Send + Sync, K: Linker<J> + Sync>(
     rt: &R,
     linker: &K,
     memory: &Memory<J>,
     runs: &mut [HartRun<J>],
 )
-    requires { All (λ run. IsReady J.setting J.journal run.seat run.hart.hart run.blocks) runs.old }
+    requires ready { All (λ run. IsReady J.setting J.journal run.seat run.hart.hart run.blocks) runs.old }
+    requires over { (d : _) → HasStarted (slice_index_or runs.old 0 d).hart.hart }
     ensures { (i : ℕ) (d : _) → i < length runs.old
         → RunsToEnd J.setting J.journal (slice_index_or runs.old i d).seat (slice_index_or runs.new i d).seat (slice_index_or runs.old i d).hart.hart
         (slice_index_or runs.new i d).hart.hart (slice_index_or runs.new i d).blocks }
@@ -61,6 +62,7 @@ fn start_first<R: Wait, J: Opening, K: Linker<J>>(
     ensures ready { All (λ run. IsReady J.setting J.journal run.seat run.hart.hart run.blocks) runs.new }
     ensures first { (d : _) → RunsOn J.setting J.journal (slice_index_or runs.old 0 d).seat (slice_index_or runs.new 0 d).seat (slice_index_or runs.old 0 d).hart.hart
         (slice_index_or runs.new 0 d).hart.hart (slice_index_or runs.new 0 d).blocks }
+    ensures over { (d : _) → HasStarted (slice_index_or runs.new 0 d).hart.hart }
     ensures others { (i : ℕ) (d : _) → 0 < i → slice_index_or runs.new i d ≡ slice_index_or runs.old i d }
 {
     runs[0].start(rt, linker, memory);

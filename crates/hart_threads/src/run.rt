@@ -3,7 +3,7 @@
 ghost use Rattle.std.specs.Prelude.{◌≡◌, ◌<◌, true, false, None, IsSome};
 ghost use Rattle.hart_moves.specs.Due.{Due as is_due, back, due};
 ghost use Rattle.hart_threads.specs.Next.{HoldsSlot};
-ghost use Rattle.hart_threads.specs.Run.{IsCalm, RunsOn};
+ghost use Rattle.hart_threads.specs.Run.{HasStarted, IsCalm, RunsOn};
 ghost use Rattle.hart_trails.specs.Trails.{is_located};
 ghost use Rattle.hart_turns.specs.Turns.{is_own};
 ghost use Rattle.history_calls.specs.Call.{locates};
@@ -36,7 +36,8 @@ impl<J: Opening> HartRun<J> {
     pub fn start<R: Wait, K: Linker<J>>(&mut self, rt: &R, linker: &K, memory: &Memory<J>)
         requires between { IsBetweenTurns J.setting J.journal self.old.seat self.old.hart.hart self.old.blocks }
         requires calm { IsCalm self.old.seat self.old.hart.hart }
-        ensures { RunsOn J.setting J.journal self.old.seat self.new.seat self.old.hart.hart self.new.hart.hart self.new.blocks }
+        ensures runs { RunsOn J.setting J.journal self.old.seat self.new.seat self.old.hart.hart self.new.hart.hart self.new.blocks }
+        ensures over { HasStarted self.new.hart.hart }
     {
         for _ in rt.forever() {
             if self.hart.end().is_some() || !self.hart.is_starting() {
