@@ -1,4 +1,0 @@
-pub mod Closings
-pub mod Grants
-pub mod Lazy
-pub mod Loadings
