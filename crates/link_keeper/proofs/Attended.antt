@@ -13,6 +13,7 @@ use Rattle.word_rule.specs.Views.{BeginsWith, IsLong, NoneAbove, known_of, readi
 use Rattle.slot_bind.specs.Rows.{begun}
 use Rattle.history_state.specs.After.{after}
 use Rattle.history_state.specs.Setting.{Setting}
+use Rattle.history_state.specs.Slots.{HasNoGrant}
 use Rattle.hart_moves.specs.Follows.{HasNone}
 use Rattle.hart_trails.specs.Lemmas.Rising.{generation_rises}
 use Rattle.link_state.specs.Table.{LinkTable}
@@ -74,8 +75,8 @@ module _ (tail : TailHasNone) (w : Setting) (given : List Event) (k0 k1 k2 : Kee
   none_yet = tail given k0 id (length before.heard) low begun_low view.kept.handed
       (λ e there event. heard.entries e (subst (λ (es : List Entry). Contains es e) (ap (λ (n : ℕ). (row_of k0 n).issued) same ∙ sym issued) there) event)
 
-  pub attends : Attends k2 before h2 id
-  attends = record {
+  pub attends : ((row_of k2 id).pending ≡ None → HasNoGrant (after k2.events) id) → Attends k2 before h2 id
+  attends free = record {
     calling = calling;
     step = step ∙ sym (settled.issued h2.number);
     may = record {
@@ -87,6 +88,7 @@ module _ (tail : TailHasNone) (w : Setting) (given : List Event) (k0 k1 k2 : Kee
     taken = ap (λ (x : HartView). x.lane.taken) calls ∙ ap (λ (x : HartView). x.lane.taken) told;
     longer = (begins.0 ++ settled.more, events_are ∙ ap (λ (es : List Event). es ++ settled.more) begins.1 ∙ append_assoc before.heard begins.0 settled.more);
     none = subst (λ (es : List Event). HasNone es id (length before.heard) (length es)) (sym events_are) (none_more id (length before.heard) k0.events settled.more none_yet settled.nobodys);
+    free = free (is_settled (row_of k2 id).pending refl);
     found = settled.found;
     read = λ n there.
         let low : n ≤ k0.generation = readings n there in

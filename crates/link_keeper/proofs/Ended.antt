@@ -1,5 +1,5 @@
 -- A hart ends.
-use Rattle.std.proofs.Common.{◌≡◌, ℕ, ◌+◌, ◌<◌, false, List, [], ◌∷◌, ◌++◌, length, length-append, Option, None, Some, refl, sym, ap, subst, ◌∙◌, append-nil, arith}
+use Rattle.std.proofs.Common.{◌≡◌, ℕ, ◌+◌, ◌<◌, false, List, [], ◌∷◌, ◌++◌, length, length-append, Option, None, refl, sym, ap, subst, ◌∙◌, append-nil, arith}
 use Rattle.history_event.specs.declared.event.Event.{Event}
 use Rattle.history_event.specs.declared.event.Event.TheVariants.{Ended}
 use Rattle.history_event.specs.declared.hart_end.HartEnd.{HartEnd}
@@ -10,7 +10,6 @@ use Rattle.word_rule.specs.declared.view.Offer.{Offer}
 use Rattle.word_rule.specs.declared.view.TrailItem.{TrailItem}
 use Rattle.word_rule.specs.declared.view.TrailItem.TheVariants.{Took}
 use Rattle.word_rule.specs.Views.{known_of}
-use Rattle.history_state.specs.Accepted.{AcceptsOnly}
 use Rattle.history_state.specs.After.{after}
 use Rattle.history_state.specs.Allowed.{MayEnd}
 use Rattle.history_state.specs.Lemmas.Lists.{only_in}
@@ -33,23 +32,15 @@ use Rattle.kept_words.specs.Staying.{EventsStay}
 use Rattle.link_keeper.specs.Attending.{Attends}
 use Rattle.hart_linker.specs.Between.{BlocksFit, HasHeard}
 use Rattle.link_keeper.specs.Keeping.{KeepsState, KeepsView, WasOver}
-use Rattle.link_keeper.specs.Passing.{IsNext, MayPass, PassesNext}
+use Rattle.link_keeper.specs.Passing.{IsNext, PassesNext}
 use Rattle.hart_linker.specs.Serving.{EndsTurn, HasRun}
 use Rattle.link_keeper.proofs.Ending.{IsPlain, alone_of, blocks_plain, event_plain, heard_on}
 use Rattle.link_keeper.proofs.Fitting.{fits_on}
-use Rattle.link_keeper.proofs.Settled.{pending_of}
 use Rattle.link_keeper.proofs.Rest.{first_entry, first_events, first_known, first_view, no_module}
 
 -- what a hart that is idle knows is what it took
 pub idle_known : (h : HartView) → h.lane.offer ≡ None → known_of h.lane ≡ h.lane.taken
 idle_known h none = ap (λ (o : Option Offer). known_of (record h.lane { offer = o })) none ∙ append-nil h.lane.taken
-
--- a hart that is known to call has no open grant
-pub calling_is_free : SlotsStand → (w : Setting) (given : List Event) (state : LinkTable) (k : KeeperView) (id : ℕ) → AcceptsOnly w.machine → KeepsState w given state k → MayPass k id → HasNoGrant (after k.events) id
-calling_is_free stand w given state k id only keeps may x there pending own =
-    let waits = pending_of w given state k keeps only stand id x.number (record { grant = x; there = there; pending = pending; of = own; numbered = refl }) in
-    let bad : None ≡ Some waits.0 = sym may.waits.1.2 ∙ waits.1 in
-    absurd (cc)
 
 module _ (others : OthersLeaveHart) (not_over : RunningIsNotOver) (may_end : FitsMayEnd) (w : Setting) (given : List Event) (state : LinkTable) (k : KeeperView) (before h : HartView) (id : ℕ)
     (keeps : KeepsState w given state k) (heard : HasHeard w given before) (same : id ≡ before.number) (run : HasRun w before) (at : Attends k before h id) where
@@ -115,18 +106,18 @@ module _ (others : OthersLeaveHart) (not_over : RunningIsNotOver) (may_end : Fit
         end_blocks d fit = blocks_plain d before i (entry_behind k.events (Ended id reason) ∷ []) known
             (λ e there. subst IsPlain (only_in (entry_behind k.events (Ended id reason)) e there) (event_plain (entry_behind k.events (Ended id reason)) refl (no_module (after k.events) (Ended id reason) refl))) fit
 
-        pub end_turn : HasNoGrant (after k.events) id → (b c : HartState) → c ≡ ended reason b → EndsTurn w before i reason b c
-        end_turn free b c left = record {
+        pub end_turn : (b c : HartState) → c ≡ ended reason b → EndsTurn w before i reason b c
+        end_turn b c left = record {
           same = number_is;
           past = k.events;
           since = at.longer;
           none = subst (λ (n : ℕ). HasNone k.events n (length before.heard) (length k.events)) same at.none;
-          free = subst (λ (n : ℕ). HasNoGrant (after k.events) n) same free;
           may = subst (λ (n : ℕ). MayEnd w (after k.events) n) same end_may;
           heard = heard_is ∙ events_are ∙ ap (λ (n : ℕ). k.events ++ Ended n reason ∷ []) same;
           trail = ap (λ (x : HartView). x.trail) next.seat
               ∙ ap (λ (items : List TrailItem). items ++ Took (entry_behind k.events (Ended id reason)) ∷ []) at.trail
               ∙ ap (λ (n : ℕ). before.trail ++ Took (entry_behind k.events (Ended n reason)) ∷ []) same;
+          free = subst (λ (n : ℕ). HasNoGrant (after k.events) n) same at.free;
           left = left;
         }
 
@@ -148,16 +139,16 @@ pub record Ends (w : Setting) (given : List Event) (t : LinkTable) (k l : Keeper
   pub blocks : (d : BlockTable) → BlocksFit d before → BlocksFit d i
   pub events : l.events ≡ k.events ++ Ended id reason ∷ []
 
-pub ends : OthersLeaveHart → RunningIsNotOver → FitsMayEnd → EventsStay → QuietKept → SlotsStand → (w : Setting) (given : List Event) (state t : LinkTable) (k l : KeeperView) (before h i : HartView) (id : ℕ) (reason : HartEnd)
-    (b c : HartState) → AcceptsOnly w.machine → KeepsState w given state k → HasHeard w given before → id ≡ before.number → HasRun w before → before.lane.offer ≡ None → Attends k before h id → t ≡ appended state (Ended id reason)
+pub ends : OthersLeaveHart → RunningIsNotOver → FitsMayEnd → EventsStay → QuietKept → (w : Setting) (given : List Event) (state t : LinkTable) (k l : KeeperView) (before h i : HartView) (id : ℕ) (reason : HartEnd)
+    (b c : HartState) → KeepsState w given state k → HasHeard w given before → id ≡ before.number → HasRun w before → before.lane.offer ≡ None → Attends k before h id → t ≡ appended state (Ended id reason)
     → ((e : Event) (rest : List Event) → IsNext t k e rest → PassesNext id e k l h i) → c ≡ ended reason b → Ends w given t k l before i reason b c id
-ends others not_over may_end stay quiet_kept stand w given state t k l before h i id reason b c only keeps heard same run idle at noted passes left =
+ends others not_over may_end stay quiet_kept w given state t k l before h i id reason b c keeps heard same run idle at noted passes left =
     let events = ap (λ (x : LinkTable). x.events) noted in
     let harts = ap (λ (x : LinkTable). x.harts) noted in
     let next : PassesNext id (Ended id reason) k l h i = passes (Ended id reason) [] (end_next others not_over may_end w given state k before h id keeps heard same run at stay quiet_kept reason t events harts) in
     record {
       keeps = end_keeps others not_over may_end w given state k before h id keeps heard same run at stay quiet_kept reason t events harts l i next;
-      turn = end_turn others not_over may_end w given state k before h id keeps heard same run at stay quiet_kept reason t events harts l i next idle (calling_is_free stand w given state k id only keeps at.may) b c left;
+      turn = end_turn others not_over may_end w given state k before h id keeps heard same run at stay quiet_kept reason t events harts l i next idle b c left;
       heard = end_heard others not_over may_end w given state k before h id keeps heard same run at stay quiet_kept reason t events harts l i next idle;
       calling = ap (λ (x : HartView). x.lane.calling) next.seat;
       blocks = end_blocks others not_over may_end w given state k before h id keeps heard same run at stay quiet_kept reason t events harts l i next idle;

@@ -11,6 +11,7 @@ use Rattle.word_rule.specs.KeeperSteps.{with_row}
 use Rattle.word_rule.specs.Layout.{harts_at_most}
 use Rattle.word_rule.specs.Lemmas.Heeding.{row_else, row_here}
 use Rattle.word_rule.specs.Views.{IsLong, row_of}
+use Rattle.slot_bind.specs.Grants.{posted, row_posted}
 use Rattle.kept_words.specs.Staying.{IsGrantEvent, number_by, number_in}
 
 pub inside : (k : KeeperView) (h : ℕ) → IsLong k → h < harts_at_most → h < length k.rows
@@ -21,6 +22,10 @@ pub row_field : {A : Type 0} (f : Row → A) → (k : KeeperView) (m : ℕ) (r :
 row_field {A} f k m r low same j = dite (ℕ_discrete j m)
     (λ (here : j ≡ m). subst (λ (i : ℕ). f (row_of (with_row m r k) i) ≡ f (row_of k i)) (sym here) (ap f (row_here k m r low) ∙ same))
     (λ (apart : j ≢ m). ap f (row_else k m r low j apart))
+
+-- the lazy word of a row in which a grant was posted
+pub posted_lazy : (k : KeeperView) (m : ℕ) (g : Grant) → IsLong k → m < harts_at_most → (row_of (posted m g k) m).lazy ≡ g.lazy
+posted_lazy k m g long low = ap (λ (r : Row). r.lazy) (row_here k m (row_posted g (row_of k m)) (inside k m long low))
 
 front_at : {X : Type 0} (xs ys : List X) (n : ℕ) (x : X) → slice_get xs n ≡ Some x → slice_get (xs ++ ys) n ≡ Some x
 front_at {X} [] ys n x e = absurd (let no : None ≡ Some x = e in cc)

@@ -1,12 +1,18 @@
 pub mod Acted
+pub mod Answered
 pub mod Attended
 pub mod BlocksStay
+pub mod Called
+pub mod Current
 pub mod Ended
 pub mod Ending
 pub mod Finished
 pub mod Fitting
+pub mod Granted
+pub mod Handed
 pub mod Heard
 pub mod Kept
+pub mod Over
 pub mod Passed
 pub mod Premises
 pub mod Remade
@@ -14,3 +20,5 @@ pub mod Rest
 pub mod Served
 pub mod Settled
 pub mod Shown
+pub mod Stored
+pub mod Taken

@@ -291,6 +291,15 @@ pub pending_in : (w : Setting) (begun : List Event) (state : LinkTable) (k : Kee
 pending_in w begun state k keeps only stand id number x =
     pending_of w begun state k keeps only stand id number (subst (λ (es : List Event). HasOpenGrant (after es) id number) (sym keeps.same) x)
 
+-- a hart whose row waits for nothing has no open grant
+pub none_open : (w : Setting) (begun : List Event) (state : LinkTable) (k : KeeperView) → KeepsState w begun state k → AcceptsOnly w.machine → SlotsStand → (id : ℕ) → (row_of k id).pending ≡ None
+    → HasNoGrant (after k.events) id
+none_open w begun state k keeps only stand id none x there pending own =
+    let open_one : HasOpenGrant (after k.events) id x.number = record { grant = x; there = there; pending = pending; of = own; numbered = refl } in
+    let waits = pending_of w begun state k keeps only stand id x.number open_one in
+    let bad : None ≡ Some waits.0 = sym none ∙ waits.1 in
+    absurd cc
+
 pub settles_none_in : (w : Setting) (begun : List Event) (state : LinkTable) (k : KeeperView) → KeepsState w begun state k → (id : ℕ) → id < harts_at_most → HasNoGrant (after state.events) id
     → SettlesOne id k k
 settles_none_in w begun state k keeps id low none = settles_none w begun state k keeps id low (subst (λ (es : List Event). HasNoGrant (after es) id) (sym keeps.same) none)

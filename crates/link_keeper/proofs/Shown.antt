@@ -1,5 +1,6 @@
 -- What the library's counts show stays while nothing is opened.
 use Rattle.std.proofs.Common.{◌≡◌, ⊎_elim, inl, ℕ, ◌+◌, ◌≤◌, Bool, false, cond, List, [], ◌∷◌, ◌++◌, length, length-append, drop, count_by, Some, None, refl, sym, ap, subst, ◌∙◌, append_assoc, arith}
+use Rattle.std.proofs.Math.Seq.{drop-append_seam}
 use Rattle.std.proofs.lemmas.List.{drop-append-le}
 use Rattle.std.proofs.lemmas.List.Sums.{sum_by-cons}
 use Rattle.std.proofs.lemmas.List.Elements.{Contains-append_cases}
@@ -9,6 +10,7 @@ use Rattle.ld_base.specs.declared.fault.DlFault.{DlFault}
 use Rattle.history_event.specs.declared.event.Event.{Event}
 use Rattle.history_event.specs.declared.event.Event.TheVariants as events
 use Rattle.word_rule.specs.declared.view.KeeperView.{KeeperView}
+use Rattle.word_rule.specs.Views.{BeginsWith}
 use Rattle.history_state.specs.Setting.{Setting}
 use Rattle.link_state.specs.Table.{LinkTable}
 use Rattle.history_state.specs.Lemmas.Lists.{here, later, only_in}
@@ -87,3 +89,33 @@ pub begun_least : (w : Setting) (begun : List Event) (state : LinkTable) (k : Ke
 begun_least w begun state k keeps =
     let whole : length k.events ≡ length begun + length keeps.view.kept.begins.0 = ap length keeps.view.kept.begins.1 ∙ length-append begun keeps.view.kept.begins.0 in
     omega (arith, whole)
+
+-- ---- a turn behind grants that were settled
+
+quiet_counts : (folders : List (List ℕ)) (more : List Event) (counts : Counts) → ((e : Event) → Contains more e → is_opening e ≡ false) → ShowInCounts folders more counts counts
+quiet_counts folders more counts none = record {
+  faults = inl (rises_none _ counts.faults (count_none (is_refused_for is_read_fault) more (λ e there. not_refused is_read_fault e (none e there))));
+  misses = inl (rises_none _ counts.misses (count_none (is_refused_for (is_missed folders)) more (λ e there. not_refused (is_missed folders) e (none e there))));
+}
+
+-- what the turn's events show, all that came since shows
+pub turn_shown : CountsJoin → (folders : List (List ℕ)) (old between past journal own new : List Event) (first now : Counts) → NobodysCame old between → between ≡ past → journal ≡ new → new ≡ between ++ own
+    → ShowInCounts folders (drop (length past) journal) first now → ShowInCounts folders (drop (length old) new) first now
+turn_shown join folders old between past journal own new first now settled same is are shown =
+    let whole : new ≡ old ++ (settled.more ++ own) = are ∙ ap (λ (es : List Event). es ++ own) settled.are ∙ append_assoc old settled.more own in
+    let its : drop (length past) journal ≡ own =
+    ap (λ (es : List Event). drop (length es) journal) (sym same) ∙ ap (drop (length between)) (is ∙ are) ∙ drop-append_seam between own in
+    subst (λ (es : List Event). ShowInCounts folders es first now) (sym (ap (drop (length old)) whole ∙ drop-append_seam old (settled.more ++ own)))
+    (join folders settled.more own first first now (quiet_counts folders settled.more first (λ e there. nobodys_opening e (settled.nobodys e there)))
+    (subst (λ (es : List Event). ShowInCounts folders es first now) its shown))
+
+pub came_behind : (old between new : List Event) → NobodysCame old between → BeginsWith new between → BeginsWith new old
+came_behind old between new settled behind = (settled.more ++ behind.0, behind.1 ∙ ap (λ (es : List Event). es ++ behind.0) settled.are ∙ append_assoc old settled.more behind.0)
+
+-- and what came since shows, all that came since the seats were made does
+pub more_shown : CountsJoin → (folders : List (List ℕ)) (begun old new : List Event) (first counts now : Counts) → length begun ≤ length old → BeginsWith new old
+    → ShowInCounts folders (drop (length begun) old) first counts → ShowInCounts folders (drop (length old) new) counts now → ShowInCounts folders (drop (length begun) new) first now
+more_shown join folders begun old new first counts now short behind shown more =
+    let its : drop (length old) new ≡ behind.0 = ap (drop (length old)) behind.1 ∙ drop-append_seam old behind.0 in
+    subst (λ (es : List Event). ShowInCounts folders es first now) (sym (ap (drop (length begun)) behind.1 ∙ drop-append-le (length begun) old behind.0 short))
+    (join folders (drop (length begun) old) behind.0 first counts now shown (subst (λ (es : List Event). ShowInCounts folders es counts now) its more))

@@ -5,6 +5,7 @@ use Rattle.word_rule.specs.declared.view.HartView.{HartView}
 use Rattle.word_rule.specs.declared.view.KeeperView.{KeeperView}
 use Rattle.word_rule.specs.Views.{BeginsWith, NoneAbove, readings_of, row_of}
 use Rattle.history_state.specs.After.{after}
+use Rattle.history_state.specs.Slots.{HasNoGrant}
 use Rattle.history_calls.specs.Laws.{hart_of}
 use Rattle.hart_moves.specs.Follows.{HasNone}
 use Rattle.link_keeper.specs.Passing.{InStep, IsCalling, MayPass}
@@ -16,7 +17,7 @@ pub record NobodysCame (old new : List Event) : Type 0 where
   pub are : new ≡ old ++ more
   pub nobodys : (e : Event) → Contains more e → hart_of e ≡ None
 
--- it is known to call, and its last grant is settled. No event of its own came since it heard of them last
+-- it is known to call, and its grants are settled. No event of its own came since it heard of them last
 pub record Attends (k : KeeperView) (before h : HartView) (id : ℕ) : Type 0 where
   pub calling : IsCalling h
   pub step : InStep k h
@@ -26,6 +27,7 @@ pub record Attends (k : KeeperView) (before h : HartView) (id : ℕ) : Type 0 wh
   pub taken : h.lane.taken ≡ before.lane.taken
   pub longer : BeginsWith k.events before.heard
   pub none : HasNone k.events id (length before.heard) (length k.events)
+  pub free : HasNoGrant (after k.events) id
   pub found : (m : ℕ) → m < 16 → IsFoundOpen (row_of k m)
   -- no generation that it has read is later than that of these events
   pub read : NoneAbove (after k.events).generation (readings_of before.trail)

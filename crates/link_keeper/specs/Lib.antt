@@ -2,8 +2,10 @@ pub mod Acting
 pub mod Attending
 pub mod Entering
 pub mod Finishing
+pub mod Handing
 pub mod Joining
 pub mod Keeping
 pub mod Passing
 pub mod Remaking
+pub mod Serving
 pub mod Settling

@@ -8,6 +8,8 @@ ghost use Rattle.link_keeper.specs.Keeping.{KeepsState};
 use crate::rows::begin;
 use crate::settling::settle_all;
 use hart_linker::Opening;
+use history_journal::accepted_object;
+use history_memory::slots_stand;
 use kept_words::{entries_are_events, records_stay};
 use ld_base::HartId;
 use link_state::LinkState;
@@ -34,6 +36,8 @@ pub(crate) fn attend<R: Wait, J: Opening>(
 {
     entries_are_events();
     records_stay();
+    accepted_object();
+    slots_stand();
     let _ = seat.number();
     tell(memory, keeper, seat);
     begin(rt, memory, keeper, seat, id);

@@ -14,8 +14,6 @@ use hart_fits::{harts_fit, running_is_not_over};
 use hart_linker::Opening;
 use hart_seat::LinkedHart;
 use history_event::HartEnd;
-use history_journal::accepted_object;
-use history_memory::slots_stand;
 use kept_words::{records_stay, states_stay};
 use ld_base::HartId;
 use link_state::LinkState;
@@ -44,8 +42,6 @@ pub(crate) fn end_hart<R: Wait, J: Opening>(
     ensures blocks { (d : BlockTable) → BlocksFit d seat.old → BlocksFit d seat.new }
     ensures opened { OpensNothing keeper.old.events keeper.new.events }
 {
-    slots_stand();
-    accepted_object();
     ends_are_few();
     harts_fit();
     running_is_not_over();

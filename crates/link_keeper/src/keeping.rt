@@ -1,18 +1,22 @@
 //! What the lock keeps.
 
-ghost use Rattle.std.specs.Prelude.{◌≡◌, false};
+ghost use Rattle.std.specs.Prelude.{◌≡◌, false, true};
 ghost use Rattle.tls_blocks.specs.Blocks.{BlockTable};
-ghost use Rattle.hart_linker.specs.Between.{BlocksFit, HasHeard};
+ghost use Rattle.hart_linker.specs.Between.{BlocksFit, HasHeard, IsBetweenTurns};
+ghost use Rattle.hart_moves.specs.Due.{due};
+ghost use Rattle.history_state.specs.State.{State};
 ghost use Rattle.link_keeper.specs.Keeping.{IsClosed, IsKept};
-ghost use Rattle.hart_linker.specs.Serving.{EndsTurn, HasRun};
+ghost use Rattle.hart_linker.specs.Serving.{EndsTurn, HasRun, ServesTurn, is_asking};
 
 use crate::ends::end_hart;
-use hart_linker::Opening;
+use crate::serving::serve_hart;
+use hart_linker::{HartBlocks, Opening};
 use hart_seat::LinkedHart;
 use history_event::HartEnd;
 use ld_base::Names;
 use library_source::Library;
 use link_state::LinkState;
+use std::alloc::Global;
 use std::marker::Model;
 use std::sync::{Mutex, Wait};
 use word_memory::{HartSeat, KeeperSeat, Memory};
@@ -21,6 +25,7 @@ use world_turns::counts_show;
 /// The linker's state, the keeper's seat, and what openings read. Contracts see it as the keeper's view.
 #[derive(Drop)]
 pub(crate) struct Locked<J: Opening, L: Library + Drop> {
+    pub(crate) alloc: Global,
     pub(crate) state: LinkState,
     pub(crate) seat: KeeperSeat<J>,
     pub(crate) folders: Names,
@@ -40,6 +45,35 @@ impl<J: Opening, L: Library + Drop> Model for Locked<J, L> {
 }
 
 impl<J: Opening, L: Library + Drop> Locked<J, L> {
+    /// Takes a hart's turn that asks.
+    fn serve<R: Wait>(
+        &mut self,
+        rt: &R,
+        memory: &Memory<J>,
+        seat: &mut HartSeat<J>,
+        hart: &mut LinkedHart,
+        blocks: &mut HartBlocks,
+    )
+        requires between { IsBetweenTurns J.setting J.journal seat.old hart.old.hart blocks.old }
+        requires asks { (s : State) → is_asking (due s hart.old.hart) ≡ true }
+        ensures turn { ServesTurn J.setting seat.old seat.new hart.old.hart hart.new.hart }
+        ensures between { IsBetweenTurns J.setting J.journal seat.new hart.new.hart blocks.new }
+    {
+        counts_show();
+        serve_hart(
+            rt,
+            self.alloc,
+            memory,
+            &mut self.seat,
+            &mut self.state,
+            seat,
+            hart,
+            blocks,
+            &self.folders,
+            &mut self.library,
+        );
+    }
+
     /// Ends a hart in a turn whose calls of the bus are over.
     fn end<R: Wait>(
         &mut self,
@@ -78,18 +112,44 @@ pub struct Keeper<J: Opening, L: Library + Drop> {
 
 impl<J: Opening, L: Library + Drop> Keeper<J, L> {
     /// A keeper of a state, whose harts' seats were made.
-    pub fn new(state: LinkState, seat: KeeperSeat<J>, folders: Names, library: L) -> Self
+    pub fn new(
+        alloc: Global,
+        state: LinkState,
+        seat: KeeperSeat<J>,
+        folders: Names,
+        library: L,
+    ) -> Self
         requires { IsKept J.setting J.journal J.counts state seat folders (L.files library)
             (record { faults = L.faults library; misses = L.misses library }) }
     {
         Keeper {
             lock: Mutex::new(Locked {
+                alloc,
                 state,
                 seat,
                 folders,
                 library,
             }),
         }
+    }
+
+    /// Takes a hart's turn that asks the linker: a call, one that waits still, or the turn in which the
+    /// functions of an object of startup, of an opening or of a closing have run. Where memory is wanted
+    /// the hart ends.
+    pub fn serve<R: Wait>(
+        &self,
+        rt: &R,
+        memory: &Memory<J>,
+        seat: &mut HartSeat<J>,
+        hart: &mut LinkedHart,
+        blocks: &mut HartBlocks,
+    )
+        requires between { IsBetweenTurns J.setting J.journal seat.old hart.old.hart blocks.old }
+        requires asks { (s : State) → is_asking (due s hart.old.hart) ≡ true }
+        ensures turn { ServesTurn J.setting seat.old seat.new hart.old.hart hart.new.hart }
+        ensures between { IsBetweenTurns J.setting J.journal seat.new hart.new.hart blocks.new }
+    {
+        self.lock.lock(rt).serve(rt, memory, seat, hart, blocks);
     }
 
     /// Ends a hart in a turn whose calls of the bus are over: its end is noted, and it takes the entry. It has
@@ -119,6 +179,7 @@ impl<J: Opening, L: Library + Drop> Keeper<J, L> {
             (record { faults = L.faults result.2; misses = L.misses result.2 }) }
     {
         let Locked {
+            alloc: _,
             state,
             seat,
             folders: _,

@@ -4,13 +4,14 @@ ghost use Rattle.std.specs.Prelude.{◌≡◌, ◌≢◌, ◌<◌, ◌++◌, [],
 ghost use Rattle.word_rule.specs.HartSteps.{IsMark};
 ghost use Rattle.word_rule.specs.KeeperSteps.{awaited_if};
 ghost use Rattle.word_rule.specs.Views.{IsLong, row_of};
+ghost use Rattle.slot_bind.specs.Grants.{MayPost, grant_of, posted};
 ghost use Rattle.slot_bind.specs.Rows.{begun, found_state, handed_over};
 ghost use Rattle.word_steps.specs.Knowing.{counted};
 ghost use Rattle.link_keeper.specs.Passing.{InStep, IsCalling, IsNextEntry, IsNoEvents, MayPass, has_read, took};
 
-use history_event::Event;
+use history_event::{Event, Offer};
 use ld_base::HartId;
-use slot_bind::{accept, arrived, begin_call, calling, hand, read_row};
+use slot_bind::{accept, arrived, begin_call, calling, hand, post, read_row};
 use std::sync::Wait;
 use word_memory::{HartSeat, KeeperSeat, Memory, Naming, count_up, tell};
 use word_rule::{Entry, Grant};
@@ -83,6 +84,7 @@ fn read_handed<R: Wait, J: Naming>(
     requires handed { (row_of keeper.old seat.old.number).issued ≡ seat.old.lane.taken ++ entry ∷ [] }
     ensures keeper { keeper.new ≡ keeper.old }
     ensures entry { result.entry ≡ entry }
+    ensures lazy { result.lazy ≡ (row_of keeper.old seat.old.number).lazy }
     ensures seat { seat.new ≡ has_read result keeper.old.events seat.old }
 {
     let _ = await_entry(rt, memory, seat);
@@ -157,4 +159,61 @@ pub(crate) fn pass_answer<R: Wait, J: Naming>(
     let _ = seat.number();
     hand(memory, keeper, hart, entry);
     receive(rt, memory, keeper, seat, entry);
+}
+
+/// Reads the row in which a grant was posted to the hart, which knows all events then.
+fn read_grant<R: Wait, J: Naming>(
+    rt: &R,
+    memory: &Memory<J>,
+    keeper: &mut KeeperSeat<J>,
+    seat: &mut HartSeat<J>,
+    grant: Grant,
+)
+    requires calling { IsCalling seat.old }
+    requires handed { (row_of keeper.old seat.old.number).issued ≡ seat.old.lane.taken ++ grant.entry ∷ [] }
+    requires lazy { (row_of keeper.old seat.old.number).lazy ≡ grant.lazy }
+    ensures keeper { keeper.new ≡ keeper.old }
+    ensures seat { seat.new ≡ has_read grant keeper.old.events seat.old }
+{
+    let _ = read_handed(rt, memory, keeper, seat, grant.entry);
+}
+
+/// Counts the event of a grant to a hart that is known to call, and opens the hart's row with the offer, at
+/// this generation. The hart has read it then, and knows all events.
+pub(crate) fn pass_grant<R: Wait, J: Naming>(
+    rt: &R,
+    memory: &Memory<J>,
+    keeper: &mut KeeperSeat<J>,
+    seat: &mut HartSeat<J>,
+    hart: HartId,
+    event: &Event,
+    offer: &Offer,
+    generation: u64,
+) -> Entry
+    requires hart { hart ≡ seat.old.number }
+    requires calling { IsCalling seat.old }
+    requires step { InStep keeper.old seat.old }
+    requires few { length keeper.old.events < 18446744073709551615 }
+    requires may { MayPost (counted event.now keeper.old) hart offer.now }
+    requires generation { generation ≡ keeper.old.generation }
+    ensures entry { result ≡ (grant_of offer.now keeper.old.generation).entry }
+    ensures keeper { keeper.new ≡ posted hart (grant_of offer.now keeper.old.generation) (counted event.now keeper.old) }
+    ensures seat { seat.new ≡ has_read (grant_of offer.now keeper.old.generation) keeper.new.events seat.old }
+    ensures step { InStep keeper.new seat.new }
+{
+    let _ = seat.number();
+    count_up(memory, keeper, event);
+    post(memory, keeper, hart, offer);
+    let grant = Grant {
+        entry: Entry {
+            mark: 3,
+            number: offer.event,
+            slot: offer.slot,
+            value: offer.value,
+            generation,
+        },
+        lazy: offer.lazy,
+    };
+    read_grant(rt, memory, keeper, seat, grant);
+    grant.entry
 }

@@ -1,9 +1,11 @@
 use Rattle.std.proofs.Common.{ℕ, ◌<◌, true, sym, ap, subst, ◌∙◌}
+use Rattle.history_state.specs.Setting.{Machine}
 use Rattle.word_rule.specs.declared.view.HartView.{HartView}
 use Rattle.word_rule.specs.declared.view.KeeperView.{KeeperView}
 use Rattle.word_rule.specs.KeeperSteps.{awaited_if}
 use Rattle.word_rule.specs.Views.{known_of, row_of}
 use Rattle.link_keeper.proofs.Attended.{attends, awaited_state, nobodys_came}
+use Rattle.link_keeper.proofs.Settled.{none_open}
 use Rattle.link_keeper.proofs.attending.attend.Goals as goal
 
 pub begin-requires-clause-step : goal.begin-requires-clause-step
@@ -22,6 +24,8 @@ returns-clause-attends g c = attends c.entries_are_events.ensures.tail g.J.Openi
     (subst (λ n. n < 16) (c.number.ensures.number ∙ sym c.requires.id) c.number.ensures.low)
     (c.begin.ensures.keeper ∙ ap (λ (k : KeeperView). awaited_if c.args.id true k) c.tell.ensures.keeper)
     c.tell.ensures.heard c.tell.ensures.begun c.tell.ensures.issued c.begin.ensures.seat c.begin.ensures.calling c.begin.ensures.step c.settle_all.ensures.settled c.tell.ensures.readings
+    (none_open g.J.Opening.setting g.J.Opening.journal c.settle_all.new.state c.settle_all.new.keeper c.settle_all.ensures.keeps
+    (c.accepted_object.ensures.machine g.J.Opening.setting.machine (ap (λ (m : Machine). m.verdict) c.settle_all.ensures.keeps.machine)) c.slots_stand.ensures.granted c.args.id)
 
 pub returns-clause-settled : goal.returns-clause-settled
 returns-clause-settled g c = nobodys_came c.args.keeper.now c.begin.new.keeper c.settle_all.new.keeper c.args.id

@@ -1,6 +1,5 @@
 use Rattle.std.proofs.Common.{[], refl, sym, ap, length, ◌∙◌}
 use Rattle.history_event.specs.declared.event.Event.TheVariants.{Ended}
-use Rattle.history_state.specs.Setting.{Machine}
 use Rattle.link_state.specs.Table.{LinkTable}
 use Rattle.link_keeper.proofs.Ended.{end_follows, end_low, end_may, end_next, end_times, end_within, ends}
 use Rattle.link_keeper.proofs.Shown.{one_more_came}
@@ -37,42 +36,36 @@ pass_next-requires-clause-next g c = (
 
 pub returns-clause-keeps : goal.returns-clause-keeps
 returns-clause-keeps g c =
-    (ends c.harts_fit.ensures.others c.running_is_not_over.ensures.runs c.harts_fit.ensures.may_end c.states_stay.ensures.events c.records_stay.ensures.quiet c.slots_stand.ensures.granted g.J.Opening.setting g.J.Opening.journal c.attend.new.state c.ended.new.self
-    c.attend.new.keeper c.pass_next.new.keeper c.args.seat.now c.attend.new.seat c.pass_next.new.seat c.id_of-id.result c.args.reason c.args.hart.now.hart c.stop.new.hart.hart
-    (c.accepted_object.ensures.machine g.J.Opening.setting.machine (ap (λ (m : Machine). m.verdict) c.attend.ensures.keeps.machine)) c.attend.ensures.keeps c.requires.heard
+    (ends c.harts_fit.ensures.others c.running_is_not_over.ensures.runs c.harts_fit.ensures.may_end c.states_stay.ensures.events c.records_stay.ensures.quiet g.J.Opening.setting g.J.Opening.journal c.attend.new.state c.ended.new.self
+    c.attend.new.keeper c.pass_next.new.keeper c.args.seat.now c.attend.new.seat c.pass_next.new.seat c.id_of-id.result c.args.reason c.args.hart.now.hart c.stop.new.hart.hart c.attend.ensures.keeps c.requires.heard
     c.id_of-id.ensures c.requires.run (c.number.ensures.lane.idle c.requires.calling) c.attend.ensures.attends c.ended.ensures c.pass_next.ensures.passed c.stop.ensures).keeps
 
 pub returns-clause-turn : goal.returns-clause-turn
 returns-clause-turn g c =
-    (ends c.harts_fit.ensures.others c.running_is_not_over.ensures.runs c.harts_fit.ensures.may_end c.states_stay.ensures.events c.records_stay.ensures.quiet c.slots_stand.ensures.granted g.J.Opening.setting g.J.Opening.journal c.attend.new.state c.ended.new.self
-    c.attend.new.keeper c.pass_next.new.keeper c.args.seat.now c.attend.new.seat c.pass_next.new.seat c.id_of-id.result c.args.reason c.args.hart.now.hart c.stop.new.hart.hart
-    (c.accepted_object.ensures.machine g.J.Opening.setting.machine (ap (λ (m : Machine). m.verdict) c.attend.ensures.keeps.machine)) c.attend.ensures.keeps c.requires.heard
+    (ends c.harts_fit.ensures.others c.running_is_not_over.ensures.runs c.harts_fit.ensures.may_end c.states_stay.ensures.events c.records_stay.ensures.quiet g.J.Opening.setting g.J.Opening.journal c.attend.new.state c.ended.new.self
+    c.attend.new.keeper c.pass_next.new.keeper c.args.seat.now c.attend.new.seat c.pass_next.new.seat c.id_of-id.result c.args.reason c.args.hart.now.hart c.stop.new.hart.hart c.attend.ensures.keeps c.requires.heard
     c.id_of-id.ensures c.requires.run (c.number.ensures.lane.idle c.requires.calling) c.attend.ensures.attends c.ended.ensures c.pass_next.ensures.passed c.stop.ensures).turn
 
 pub returns-clause-heard : goal.returns-clause-heard
 returns-clause-heard g c =
-    (ends c.harts_fit.ensures.others c.running_is_not_over.ensures.runs c.harts_fit.ensures.may_end c.states_stay.ensures.events c.records_stay.ensures.quiet c.slots_stand.ensures.granted g.J.Opening.setting g.J.Opening.journal c.attend.new.state c.ended.new.self
-    c.attend.new.keeper c.pass_next.new.keeper c.args.seat.now c.attend.new.seat c.pass_next.new.seat c.id_of-id.result c.args.reason c.args.hart.now.hart c.stop.new.hart.hart
-    (c.accepted_object.ensures.machine g.J.Opening.setting.machine (ap (λ (m : Machine). m.verdict) c.attend.ensures.keeps.machine)) c.attend.ensures.keeps c.requires.heard
+    (ends c.harts_fit.ensures.others c.running_is_not_over.ensures.runs c.harts_fit.ensures.may_end c.states_stay.ensures.events c.records_stay.ensures.quiet g.J.Opening.setting g.J.Opening.journal c.attend.new.state c.ended.new.self
+    c.attend.new.keeper c.pass_next.new.keeper c.args.seat.now c.attend.new.seat c.pass_next.new.seat c.id_of-id.result c.args.reason c.args.hart.now.hart c.stop.new.hart.hart c.attend.ensures.keeps c.requires.heard
     c.id_of-id.ensures c.requires.run (c.number.ensures.lane.idle c.requires.calling) c.attend.ensures.attends c.ended.ensures c.pass_next.ensures.passed c.stop.ensures).heard
 
 pub returns-clause-calling : goal.returns-clause-calling
 returns-clause-calling g c =
-    (ends c.harts_fit.ensures.others c.running_is_not_over.ensures.runs c.harts_fit.ensures.may_end c.states_stay.ensures.events c.records_stay.ensures.quiet c.slots_stand.ensures.granted g.J.Opening.setting g.J.Opening.journal c.attend.new.state c.ended.new.self
-    c.attend.new.keeper c.pass_next.new.keeper c.args.seat.now c.attend.new.seat c.pass_next.new.seat c.id_of-id.result c.args.reason c.args.hart.now.hart c.stop.new.hart.hart
-    (c.accepted_object.ensures.machine g.J.Opening.setting.machine (ap (λ (m : Machine). m.verdict) c.attend.ensures.keeps.machine)) c.attend.ensures.keeps c.requires.heard
+    (ends c.harts_fit.ensures.others c.running_is_not_over.ensures.runs c.harts_fit.ensures.may_end c.states_stay.ensures.events c.records_stay.ensures.quiet g.J.Opening.setting g.J.Opening.journal c.attend.new.state c.ended.new.self
+    c.attend.new.keeper c.pass_next.new.keeper c.args.seat.now c.attend.new.seat c.pass_next.new.seat c.id_of-id.result c.args.reason c.args.hart.now.hart c.stop.new.hart.hart c.attend.ensures.keeps c.requires.heard
     c.id_of-id.ensures c.requires.run (c.number.ensures.lane.idle c.requires.calling) c.attend.ensures.attends c.ended.ensures c.pass_next.ensures.passed c.stop.ensures).calling
 
 pub returns-clause-blocks : goal.returns-clause-blocks
 returns-clause-blocks g c =
-    (ends c.harts_fit.ensures.others c.running_is_not_over.ensures.runs c.harts_fit.ensures.may_end c.states_stay.ensures.events c.records_stay.ensures.quiet c.slots_stand.ensures.granted g.J.Opening.setting g.J.Opening.journal c.attend.new.state c.ended.new.self
-    c.attend.new.keeper c.pass_next.new.keeper c.args.seat.now c.attend.new.seat c.pass_next.new.seat c.id_of-id.result c.args.reason c.args.hart.now.hart c.stop.new.hart.hart
-    (c.accepted_object.ensures.machine g.J.Opening.setting.machine (ap (λ (m : Machine). m.verdict) c.attend.ensures.keeps.machine)) c.attend.ensures.keeps c.requires.heard
+    (ends c.harts_fit.ensures.others c.running_is_not_over.ensures.runs c.harts_fit.ensures.may_end c.states_stay.ensures.events c.records_stay.ensures.quiet g.J.Opening.setting g.J.Opening.journal c.attend.new.state c.ended.new.self
+    c.attend.new.keeper c.pass_next.new.keeper c.args.seat.now c.attend.new.seat c.pass_next.new.seat c.id_of-id.result c.args.reason c.args.hart.now.hart c.stop.new.hart.hart c.attend.ensures.keeps c.requires.heard
     c.id_of-id.ensures c.requires.run (c.number.ensures.lane.idle c.requires.calling) c.attend.ensures.attends c.ended.ensures c.pass_next.ensures.passed c.stop.ensures).blocks
 
 pub returns-clause-opened : goal.returns-clause-opened
 returns-clause-opened g c = one_more_came c.args.keeper.now.events c.attend.new.keeper.events c.pass_next.new.keeper.events (Ended c.id_of-id.result c.args.reason) c.attend.ensures.settled
-    (ends c.harts_fit.ensures.others c.running_is_not_over.ensures.runs c.harts_fit.ensures.may_end c.states_stay.ensures.events c.records_stay.ensures.quiet c.slots_stand.ensures.granted g.J.Opening.setting g.J.Opening.journal c.attend.new.state c.ended.new.self
-    c.attend.new.keeper c.pass_next.new.keeper c.args.seat.now c.attend.new.seat c.pass_next.new.seat c.id_of-id.result c.args.reason c.args.hart.now.hart c.stop.new.hart.hart
-    (c.accepted_object.ensures.machine g.J.Opening.setting.machine (ap (λ (m : Machine). m.verdict) c.attend.ensures.keeps.machine)) c.attend.ensures.keeps c.requires.heard
+    (ends c.harts_fit.ensures.others c.running_is_not_over.ensures.runs c.harts_fit.ensures.may_end c.states_stay.ensures.events c.records_stay.ensures.quiet g.J.Opening.setting g.J.Opening.journal c.attend.new.state c.ended.new.self
+    c.attend.new.keeper c.pass_next.new.keeper c.args.seat.now c.attend.new.seat c.pass_next.new.seat c.id_of-id.result c.args.reason c.args.hart.now.hart c.stop.new.hart.hart c.attend.ensures.keeps c.requires.heard
     c.id_of-id.ensures c.requires.run (c.number.ensures.lane.idle c.requires.calling) c.attend.ensures.attends c.ended.ensures c.pass_next.ensures.passed c.stop.ensures).events refl

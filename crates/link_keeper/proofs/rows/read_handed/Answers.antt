@@ -26,3 +26,7 @@ pub returns-clause-seat : goal.returns-clause-seat
 returns-clause-seat g c = told_seat c.args.seat.now c.read_row-row.new.seat c.tell.new.seat c.read_row-row.result c.args.keeper.now.events
     (read_seat c.args.seat.now c.await_entry.new.seat c.read_row-row.new.seat c.await_entry.result c.read_row-row.result c.await_entry.ensures.mark c.requires.calling.fresh c.await_entry.ensures.found
     c.read_row-row.ensures.read c.read_row-row.ensures.row) c.tell.ensures.heard
+
+pub returns-clause-lazy : goal.returns-clause-lazy
+returns-clause-lazy g c = c.tell.ensures.lazy (full_offer c.read_row-row.result) c.read_row-row.result.lazy (ap (λ (h : HartView). h.lane.offer) c.read_row-row.ensures.read) refl
+    ∙ ap (λ (n : ℕ). (row_of c.args.keeper.now n).lazy) (numbered c.args.seat.now c.await_entry.new.seat c.read_row-row.new.seat c.await_entry.result c.read_row-row.result c.await_entry.ensures.found c.read_row-row.ensures.read)
