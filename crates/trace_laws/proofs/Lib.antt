@@ -1,0 +1,6 @@
+mod Alone
+mod Ends
+mod Feeds
+mod Lines
+mod Named
+mod Passing
