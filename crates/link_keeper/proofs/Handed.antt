@@ -1,5 +1,5 @@
 -- The events of a turn are passed: memory is remade by the first, it is counted, and the others follow.
-use Rattle.std.proofs.Common.{◌≡◌, ◌⊎◌, ⊎_elim, inl, inr, ℕ, ◌+◌, ◌<◌, ◌≤◌, true, false, List, [], ◌∷◌, ◌++◌, length, length-append, Option, None, Some, refl, sym, ap, subst, ◌∙◌, append-nil, append_assoc, arith}
+use Rattle.std.proofs.Common.{◌≡◌, ◌≢◌, ◌⊎◌, ⊎_elim, inl, inr, ℕ, ◌+◌, ◌<◌, ◌≤◌, true, false, List, [], ◌∷◌, ◌++◌, length, length-append, Option, None, Some, refl, sym, ap, subst, ◌∙◌, append-nil, append_assoc, arith}
 use Rattle.std.specs.List.{Contains}
 use Rattle.std.proofs.lemmas.Bool.{false≢true}
 use Rattle.history_event.specs.declared.event.CloseAnswer.TheVariants as closes
@@ -16,6 +16,7 @@ use Rattle.word_rule.specs.declared.view.Row.{Row}
 use Rattle.word_rule.specs.declared.view.TrailItem.{TrailItem}
 use Rattle.word_rule.specs.KeeperSteps.{handed}
 use Rattle.word_rule.specs.Layout.{harts_at_most}
+use Rattle.word_rule.specs.Lemmas.Heeding.{row_else}
 use Rattle.word_rule.specs.Views.{IsLong, first_hart, known_of, row_of}
 use Rattle.word_steps.specs.Knowing.{counted}
 use Rattle.slot_bind.specs.Rows.{handed_over, row_with}
@@ -260,7 +261,17 @@ module _ (stay : EventsStay) (quiet_kept : QuietKept) (remade_kept : RemadeKept)
             ∙ append_assoc h.lane.taken (entry_behind k.events e ∷ []) passed.entries;
         low = λ event. (let count : length k3.events ≡ length k.events + length (e ∷ rest) = ap length events3 ∙ length-append k.events (e ∷ rest) in omega (arith, count));
         plain = passed.plain;
+        others = λ m apart. by rest rest2 m (λ same. apart (same ∙ hand.number));
       }
+        where
+          first_else : (m : ℕ) → m ≢ id → row_of k2 m ≡ row_of k m
+          first_else m apart = ap (λ (y : KeeperView). row_of y m) next.keeper
+              ∙ row_else (counted e k1) id (handed 1 (row_with (entry_behind k1.events e) (row_of k1 id))) (inside k1 id long1 few2) m apart
+              ∙ ap (λ (y : KeeperView). row_of y m) x.only
+
+          by : (more : List Event) → left_of t k2 ≡ more → (m : ℕ) → m ≢ id → (row_of k3 m ≡ row_of k m) ⊎ (1 < length (e ∷ more))
+          by [] none m apart = inl (ap (λ (y : KeeperView). row_of y m) (passed.same none) ∙ first_else m apart)
+          by (d ∷ more) some m apart = inr (omega arith)
 
 -- ---- the calls of the code, by one record
 

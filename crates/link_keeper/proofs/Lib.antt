@@ -12,6 +12,7 @@ pub mod Granted
 pub mod Handed
 pub mod Heard
 pub mod Kept
+pub mod Left
 pub mod Over
 pub mod Passed
 pub mod Premises

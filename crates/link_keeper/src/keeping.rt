@@ -6,6 +6,7 @@ ghost use Rattle.hart_linker.specs.Between.{BlocksFit, HasHeard, IsBetweenTurns}
 ghost use Rattle.hart_moves.specs.Due.{due};
 ghost use Rattle.history_state.specs.State.{State};
 ghost use Rattle.link_keeper.specs.Keeping.{IsClosed, IsKept};
+ghost use Rattle.link_keeper.specs.Settling.{LeavesOpen};
 ghost use Rattle.hart_linker.specs.Serving.{EndsTurn, HasRun, ServesTurn, is_asking};
 
 use crate::ends::end_hart;
@@ -56,6 +57,7 @@ impl<J: Opening, L: Library + Drop> Locked<J, L> {
     )
         requires between { IsBetweenTurns J.setting J.journal seat.old hart.old.hart blocks.old }
         requires asks { (s : State) → is_asking (due s hart.old.hart) ≡ true }
+        ensures settled { LeavesOpen seat.old.number self.old self.new }
         ensures turn { ServesTurn J.setting seat.old seat.new hart.old.hart hart.new.hart }
         ensures between { IsBetweenTurns J.setting J.journal seat.new hart.new.hart blocks.new }
     {
@@ -86,6 +88,7 @@ impl<J: Opening, L: Library + Drop> Locked<J, L> {
         requires heard { HasHeard J.setting J.journal seat.old }
         requires run { HasRun J.setting seat.old }
         requires calling { seat.old.lane.calling ≡ false }
+        ensures settled { LeavesOpen seat.old.number self.old self.new }
         ensures turn { EndsTurn J.setting seat.old seat.new reason hart.old.hart hart.new.hart }
         ensures heard { HasHeard J.setting J.journal seat.new }
         ensures calling { seat.new.lane.calling ≡ false }

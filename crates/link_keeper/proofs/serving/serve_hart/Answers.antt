@@ -1,8 +1,10 @@
-use Rattle.std.proofs.Common.{◌≡◌, ℕ, length, sym, ap, subst, ◌∙◌}
+use Rattle.std.proofs.Common.{◌≡◌, ℕ, Some, length, sym, ap, subst, ◌∙◌}
 use Rattle.history_calls.specs.CallLaws.Coming.{IsOver}
 use Rattle.history_journal.specs.Following.{machine_of}
 use Rattle.history_state.specs.After.{after}
+use Rattle.hart_moves.specs.Lemmas.Legality.{turns_own}
 use Rattle.hart_moves.specs.Moves.{events_of}
+use Rattle.link_keeper.proofs.Left.{leaves_open}
 use Rattle.link_keeper.proofs.Served.{asks_idle, between_now, is_taken, journal_is, keeps_now, kept_now, may_act, may_hand_over, module_there, serves_turn}
 use Rattle.link_keeper.proofs.Shown.{came_behind, turn_shown}
 use Rattle.link_keeper.proofs.serving.serve_hart.Goals as goal
@@ -70,6 +72,18 @@ returns-clause-keeps g c =
     c.act-acted.result.reply c.pass-entry.result c.args.blocks.now c.keep_answer.new.blocks c.attend.ensures.keeps c.requires.between c.id_of-id.ensures
     (c.number.ensures.lane.idle (asks_idle (after c.args.keeper.now.events) c.args.seat.now c.args.hart.now.hart c.requires.between.row (c.requires.asks (after c.args.keeper.now.events))))
     c.attend.ensures.attends turn c.act-acted.ensures.harts over kept
+
+pub returns-clause-settled : goal.returns-clause-settled
+returns-clause-settled g c =
+    let turn = is_taken c.harts_fit.ensures.others g.J.Opening.setting g.J.Opening.journal c.attend.new.state c.attend.new.keeper c.args.seat.now c.attend.new.seat c.id_of-id.result
+    c.args.hart.now.hart c.args.blocks.now c.attend.ensures.keeps c.requires.between
+    c.id_of-id.ensures c.requires.asks c.attend.ensures.attends
+    c.act-acted.new.state c.act-acted.new.hart.hart c.act-acted.new.blocks.spare c.act-acted.result.change c.act-acted.result.reply c.act-acted.ensures.acts in
+    let over = c.pass-entry.ensures c.args.hart.now.hart c.act-acted.new.hart.hart c.act-acted.new.blocks.spare turn in
+    leaves_open c.args.keeper.now c.attend.new.keeper c.pass-entry.new.keeper c.args.seat.now.number (events_of turn.acts.did) c.attend.ensures.settled c.attend.ensures.attends.found over.passed.events
+    (λ e there. turns_own g.J.Opening.setting c.attend.new.keeper.events c.id_of-id.result c.args.hart.now.hart c.act-acted.new.hart.hart turn.acts.did turn.acts.moves e there
+      ∙ ap (λ (n : ℕ). Some n) c.id_of-id.ensures)
+    (λ m apart. over.passed.others m (λ same. apart (same ∙ c.attend.ensures.attends.number)))
 
 pub returns-clause-longer : goal.returns-clause-longer
 returns-clause-longer g c =

@@ -1,5 +1,7 @@
 use Rattle.std.proofs.Common.{ℕ, List, drop, length, sym, subst, ◌∙◌}
+use Rattle.word_rule.specs.declared.view.KeeperView.{KeeperView}
 use Rattle.world_turns.specs.Counts.{ShowInCounts}
+use Rattle.link_keeper.specs.Settling.{LeavesOpen}
 use Rattle.link_keeper.proofs.Shown.{begun_least, more_shown}
 use Rattle.link_keeper.proofs.keeping.Locked.serve.Goals as goal
 
@@ -21,3 +23,6 @@ invariant_of-self g c = record {
       (record { faults = g.L.Library.faults c.self.inside.library; misses = g.L.Library.misses c.self.inside.library })
       (record { faults = g.L.Library.faults c.serve_hart.new.library; misses = g.L.Library.misses c.serve_hart.new.library })) (sym c.self.invariant.folders_are) c.serve_hart.ensures.shown);
 }
+
+pub returns-clause-settled : goal.returns-clause-settled
+returns-clause-settled g c = subst (λ (k : KeeperView). LeavesOpen c.args.seat.now.number k c.serve_hart.new.keeper) c.self.view_is c.serve_hart.ensures.settled
