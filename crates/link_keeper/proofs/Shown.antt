@@ -35,7 +35,7 @@ not_refused of (events.Wrote hart bytes) is = refl
 not_refused of (events.Told hart fault) is = refl
 not_refused of (events.Ended hart reason) is = refl
 
-nobodys_opening : (e : Event) → hart_of e ≡ None → is_opening e ≡ false
+pub nobodys_opening : (e : Event) → hart_of e ≡ None → is_opening e ≡ false
 nobodys_opening (events.Open hart ask answer) is = absurd (let no : Some hart ≡ None = is in cc)
 nobodys_opening (events.Close hart handle answer) is = refl
 nobodys_opening (events.Unmapped hart set) is = refl

@@ -1,6 +1,8 @@
 pub mod Acting
 pub mod Attending
+pub mod Beginning
 pub mod Entering
+pub mod Finalising
 pub mod Finishing
 pub mod Handing
 pub mod Joining

@@ -183,7 +183,7 @@ fn storage_by(asked: &Call<'_>) -> Storage
 }
 
 /// The call ends its hart, which is noted.
-fn end_call(state: &mut LinkState, id: HartId, hart: &mut LinkedHart, reason: HartEnd) -> Acted
+pub(crate) fn end_call(state: &mut LinkState, id: HartId, hart: &mut LinkedHart, reason: HartEnd) -> Acted
     requires fuel { hart.old.hart.turns < hart.old.hart.fuel }
     requires may { MayEndNow state.old.harts state.old.events id }
     ensures hart { hart.new.hart ≡ ended reason (spent hart.old.hart) }

@@ -2,7 +2,7 @@
 
 ghost use Rattle.std.specs.Prelude.{◌≡◌, false};
 ghost use Rattle.hart_linker.specs.Between.{HasHeard, Hears};
-ghost use Rattle.word_rule.specs.Views.{IsLane, known_of, row_of};
+ghost use Rattle.word_rule.specs.Views.{IsLane, NoneAbove, known_of, readings_of, row_of};
 ghost use Rattle.link_keeper.specs.Keeping.{KeepsView};
 
 use hart_linker::Opening;
@@ -23,6 +23,7 @@ pub(crate) fn hear<J: Opening>(
     ensures keeper { keeper.new ≡ keeper.old }
     ensures issued { known_of seat.old.lane ≡ (row_of keeper.old seat.old.number).issued }
     ensures lane { IsLane seat.old.lane }
+    ensures read { NoneAbove keeper.old.generation (readings_of seat.old.trail) }
 {
     entries_are_events();
     let _ = seat.number();

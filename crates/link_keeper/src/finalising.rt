@@ -1,0 +1,219 @@
+//! Turns in which final destructors have run.
+
+ghost use Rattle.std.specs.Prelude.{◌≡◌, ◌⊎◌, ℕ, ◌<◌, false, true, [], length, drop, Some, Contains, IfNone, IfOk, IfSome, OnOk, IsTrue};
+ghost use Rattle.hart_linker.specs.Between.{IsBetweenTurns};
+ghost use Rattle.hart_linker.specs.Serving.{ServesTurn, is_finalising};
+ghost use Rattle.hart_moves.specs.Due.{Due as is_due, due};
+ghost use Rattle.hart_moves.specs.Harts.{HartState, Purpose as purpose_is, Resolving};
+ghost use Rattle.hart_moves.specs.Moves.{Did, Moves, settled_resolving};
+ghost use Rattle.hart_moves.specs.TurnEvents.Appends.{is_of_end};
+ghost use Rattle.hart_seat.specs.HartParts.Views.{purpose_of};
+ghost use Rattle.history_calls.specs.Laws.{hart_of};
+ghost use Rattle.history_event.specs.declared.event.Event.{Event};
+ghost use Rattle.history_state.specs.After.{after};
+ghost use Rattle.history_state.specs.Objects.{has};
+ghost use Rattle.history_state.specs.State.{State};
+ghost use Rattle.link_keeper.specs.Acting.{Acts, OpenNothing};
+ghost use Rattle.link_keeper.specs.Finalising.{HasPlan, IsPlannedOr, IsPlannedTurn, MayFinalise};
+ghost use Rattle.link_keeper.specs.Keeping.{KeepsState, OpensNothing};
+ghost use Rattle.world_answers.specs.ReturnsPart.FinalTurns.Planned.{IsPlanned};
+ghost use Rattle.world_answers.specs.ReturnsPart.FinalTurns.Table.{plan_events};
+
+use crate::acting::{Acted, Reply, end_call};
+use crate::attending::attend;
+use crate::blocks::keep_answer;
+use crate::ends::id_of;
+use crate::handing::pass;
+use crate::hearing::hear;
+use hart_fits::{harts_fit, own_moves_fit};
+use hart_linker::{HartBlocks, Opening};
+use hart_seat::{Due, LinkedHart, Purpose};
+use history_event::HartEnd;
+use history_journal::accepted_object;
+use history_state::{modules_are_tidy, nothing_comes_before_startup};
+use ld_base::{HartId, Serial};
+use link_state::LinkState;
+use std::alloc::{AllocError, Global};
+use std::sync::Wait;
+use word_memory::{HartSeat, KeeperSeat, Memory};
+use world_answers::{FinalTurn, ends_are_few, finals_go_on, settling_keeps_finals};
+use world_memory::MemoryChange;
+use world_turns::finals_may_pass;
+
+/// An object whose final destructors have run.
+#[derive(Clone, Copy)]
+struct LastObject {
+    /// With which the run has ended.
+    code: u64,
+    object: Serial,
+}
+
+/// The turn in which the final destructors of an object have run.
+#[derive(Drop)]
+enum LastTurn {
+    /// It has no events.
+    Quiet(FinalTurn),
+    /// It has some: those that are planned, or the end of its hart where memory is wanted.
+    Asks(Option<FinalTurn>),
+}
+
+/// Takes the turn of the first hart in which the final destructors of an object have run. It is planned over
+/// all events; where it has some itself, it is a call as another turn that asks. Where memory is wanted the
+/// hart ends.
+pub(crate) fn finalise_hart<R: Wait, J: Opening>(
+    rt: &R,
+    alloc: Global,
+    memory: &Memory<J>,
+    keeper: &mut KeeperSeat<J>,
+    state: &mut LinkState,
+    seat: &mut HartSeat<J>,
+    hart: &mut LinkedHart,
+    blocks: &mut HartBlocks,
+)
+    requires keeps { KeepsState J.setting J.journal state.old keeper.old }
+    requires between { IsBetweenTurns J.setting J.journal seat.old hart.old.hart blocks.old }
+    requires last { (s : State) → is_finalising (due s hart.old.hart) ≡ true }
+    ensures keeps { KeepsState J.setting J.journal state.new keeper.new }
+    ensures turn { ServesTurn J.setting seat.old seat.new hart.old.hart hart.new.hart }
+    ensures between { IsBetweenTurns J.setting J.journal seat.new hart.new.hart blocks.new }
+    ensures opened { OpensNothing keeper.old.events keeper.new.events }
+    ensures only { (keeper.new.events ≡ keeper.old.events)
+        ⊎ ((e : Event) × Contains (drop (length keeper.old.events) keeper.new.events) e × (hart_of e ≡ Some 0)) }
+{
+    harts_fit();
+    own_moves_fit();
+    finals_may_pass();
+    finals_go_on();
+    settling_keeps_finals();
+    modules_are_tidy();
+    nothing_comes_before_startup();
+    let _ = seat.number();
+    let id = id_of(seat);
+    hear(memory, keeper, seat);
+    match plan_turn(alloc, state, hart) {
+        LastTurn::Quiet(plan) => {
+            go_by::<J>(state, id, hart, plan);
+            blocks.begin(state.modules().generation());
+        }
+        LastTurn::Asks(plan) => {
+            attend(rt, memory, keeper, state, seat, id);
+            let index = state.journal().as_slice().len();
+            let acted = act_last::<J>(state, id, hart, plan);
+            let entry = pass(rt, memory, keeper, seat, state, id, index, &acted);
+            keep_answer(blocks, state.modules(), entry);
+        }
+    }
+}
+
+/// What the turn comes to in which final destructors have run.
+fn plan_turn(alloc: Global, state: &LinkState, hart: &mut LinkedHart) -> LastTurn
+    requires last { (s : State) → is_finalising (due s hart.old.hart) ≡ true }
+    requires initialised { (code object : ℕ) → ((s : State) → due s hart.old.hart ≡ is_due.finalise code object)
+        → IsTrue (has (after state.now.events).inits object) }
+    ensures planned { IsPlannedTurn (after state.now.events) hart.old.hart hart.new.spare result }
+    ensures hart { hart.new.hart ≡ hart.old.hart }
+{
+    let Some(last) = last_object(hart) else {
+        unreachable!();
+    };
+    match prepare(alloc, state, hart, last) {
+        Ok(plan) => by_events(plan),
+        Err(_) => LastTurn::Asks(None),
+    }
+}
+
+/// The turn of a plan.
+fn by_events(plan: FinalTurn) -> LastTurn
+    ensures { (s : State) (b : HartState) (spare : ℕ) → HasPlan s b spare plan → IsPlannedTurn s b spare result }
+{
+    if plan.has_events() {
+        LastTurn::Asks(Some(plan))
+    } else {
+        LastTurn::Quiet(plan)
+    }
+}
+
+/// The object whose final destructors have run, if the hart's next turn is the one behind them.
+fn last_object(hart: &LinkedHart) -> Option<LastObject>
+    ensures last { IfSome result (λ last. (s : State) → due s hart.now.hart ≡ is_due.finalise last.code last.object) }
+    ensures none { IfNone result ((s : State) → is_finalising (due s hart.now.hart) ≡ false) }
+{
+    match hart.due() {
+        Due::Complete(purpose, object, _) => last_of(purpose, object),
+        _ => None,
+    }
+}
+
+/// An object, if its functions that have run are final destructors.
+fn last_of(purpose: &Purpose, object: Serial) -> Option<LastObject>
+    ensures last { IfSome result (λ last. (purpose_of purpose.now ≡ purpose_is.of_end last.code) × (object ≡ last.object)) }
+    ensures none { IfNone result (is_of_end (purpose_of purpose.now) ≡ false) }
+{
+    match purpose {
+        Purpose::End(code) => Some(LastObject {
+            code: *code,
+            object,
+        }),
+        _ => None,
+    }
+}
+
+/// The plan of the turn. This takes all memory that the turn needs.
+///
+/// # Errors
+///
+/// Want of memory.
+fn prepare(
+    alloc: Global,
+    state: &LinkState,
+    hart: &mut LinkedHart,
+    last: LastObject,
+) -> Result<FinalTurn, AllocError>
+    requires { IsTrue (has (after state.now.events).inits last.object) }
+    ensures planned { IfOk result (IsPlanned (after state.now.events)) }
+    ensures last { IfOk result (λ plan. (plan.code ≡ last.code) × (plan.object ≡ last.object)) }
+    ensures room { OnOk result (0 < hart.new.spare) }
+    ensures hart { hart.new.hart ≡ hart.old.hart }
+{
+    hart.make_room()?;
+    FinalTurn::plan(alloc, state, last.code, last.object)
+}
+
+/// A turn without an event: the linker isn't called.
+fn go_by<J: Opening>(state: &mut LinkState, id: HartId, hart: &mut LinkedHart, plan: FinalTurn)
+    requires may { MayFinalise J.setting state.old.harts state.old.events id hart.old.hart }
+    requires plan { HasPlan (after state.old.events) hart.old.hart hart.old.spare plan }
+    requires quiet { (h : ℕ) → plan_events h plan ≡ [] }
+    ensures moves { Moves J.setting state.old.events id hart.old.hart (Did.quiet []) hart.new.hart }
+    ensures rests { settled_resolving hart.new.hart.resolving ≡ Resolving.idle }
+    ensures state { state.new ≡ state.old }
+{
+    plan.carry_out(state, id, hart);
+}
+
+/// A turn with events, which are planned, or where memory is wanted the end of the hart.
+fn act_last<J: Opening>(
+    state: &mut LinkState,
+    id: HartId,
+    hart: &mut LinkedHart,
+    plan: Option<FinalTurn>,
+) -> Acted
+    requires may { MayFinalise J.setting state.old.harts state.old.events id hart.old.hart }
+    requires plan { IsPlannedOr (after state.old.events) hart.old.hart hart.old.spare plan }
+    ensures acts { (spare : ℕ) → Acts J.setting state.old.events state.new id hart.old.hart hart.new.hart spare result.change result.reply }
+    ensures opens { OpenNothing (drop (length state.old.events) state.new.events) }
+    ensures own { (e : Event) × Contains (drop (length state.old.events) state.new.events) e × (hart_of e ≡ Some id) }
+    ensures harts { state.new.harts ≡ state.old.harts }
+{
+    ends_are_few();
+    harts_fit();
+    let Some(plan) = plan else {
+        return end_call(state, id, hart, HartEnd::Memory);
+    };
+    hart.settle();
+    plan.carry_out(state, id, hart);
+    Acted {
+        reply: Reply::Events,
+        change: MemoryChange::Nothing,
+    }
+}
