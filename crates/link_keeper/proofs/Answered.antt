@@ -1,11 +1,10 @@
 -- An answer that is no event is passed to its hart, and what it keeps of an answer.
-use Rattle.std.proofs.Common.{◌≡◌, ◌⊎◌, ⊎_elim, inl, inr, ℕ, zero, suc, ◌+◌, ◌<◌, ◌≤◌, ◌==◌, ◌&&◌, Bool, true, false, if◌then◌else◌, cond, get_or, List, [], ◌∷◌, ◌++◌, length, Option, None, Some, refl, sym, ap, subst, ◌∙◌, eq-eqb, append-nil, arith, lt_of_not-le}
+use Rattle.std.proofs.Common.{◌≡◌, ◌⊎◌, ⊎_elim, inl, ℕ, zero, suc, ◌<◌, ◌≤◌, ◌==◌, ◌&&◌, Bool, true, false, if◌then◌else◌, get_or, List, [], ◌∷◌, ◌++◌, length, Option, None, Some, refl, sym, ap, subst, ◌∙◌, append-nil, arith, lt_of_not-le}
 use mathlib.Core.Logic.{dite}
 use native.Mathlib.Decide.{dec_le}
 use Rattle.std.proofs.Math.Bool.{and-true}
 use Rattle.std.proofs.lemmas.Bool.{eqb-true}
 use Rattle.word_rule.specs.declared.entry.Entry.{Entry}
-use Rattle.word_rule.specs.declared.entry.Grant.{Grant}
 use Rattle.word_rule.specs.declared.view.HartView.{HartView}
 use Rattle.word_rule.specs.declared.view.KeeperView.{KeeperView}
 use Rattle.word_rule.specs.declared.view.Row.{Row}
@@ -24,7 +23,6 @@ use Rattle.tls_blocks.specs.Blocks.{BlockTable, block_at}
 use Rattle.tls_blocks.specs.Numbers.{module_at}
 use Rattle.kept_words.specs.Handed.{IsIssued, is_event_mark}
 use Rattle.kept_words.specs.Keeping.{AnsweredKept}
-use Rattle.kept_words.specs.Kept.{AreKept}
 use Rattle.link_keeper.specs.Handing.{IsPassed, KeepsAnswer, MayHandOver, is_stored}
 use Rattle.link_keeper.specs.Keeping.{KeepsView}
 use Rattle.link_keeper.specs.Passing.{InStep, IsNoEvents, took}

@@ -1,16 +1,13 @@
 -- The final destructors begin.
-use Rattle.std.proofs.Common.{◌≡◌, ℕ, ◌+◌, ◌<◌, ◌≤◌, ◌==◌, cond, eqb, eq-eqb, nat_le, leb-true, Bool, true, false, List, [], ◌∷◌, ◌++◌, length, length-append, take, None, Some, IsTrue, refl, sym, ap, subst, ◌∙◌, arith}
+use Rattle.std.proofs.Common.{◌≡◌, ℕ, ◌+◌, ◌<◌, ◌≤◌, ◌==◌, cond, eqb, eq-eqb, nat_le, leb-true, Bool, true, false, List, [], ◌∷◌, length, length-append, take, None, Some, IsTrue, refl, sym, ap, subst, ◌∙◌, arith}
 use Rattle.std.proofs.lemmas.Bool.{and_from, and_parts, eqb-true}
 use Rattle.std.proofs.lemmas.List.{take_all}
 use Rattle.history_event.specs.declared.event.Event.{Event}
-use Rattle.history_event.specs.declared.handed.Function.{Function}
 use Rattle.history_event.specs.declared.handed.HartEntry.{HartEntry}
 use Rattle.history_event.specs.declared.hart_end.HartEnd.TheVariants.{Exit}
 use Rattle.word_rule.specs.declared.view.HartView.{HartView}
 use Rattle.word_rule.specs.declared.view.KeeperView.{KeeperView}
-use Rattle.word_rule.specs.Layout.{harts_at_most}
 use Rattle.word_rule.specs.Views.{IsLane, known_of, last_block, row_of}
-use Rattle.rv_hart.specs.Registers.{Registers}
 use Rattle.history_state.specs.After.{after}
 use Rattle.history_state.specs.Laws.{ModulesAreTidy}
 use Rattle.history_state.specs.Legal.{Lawful}
@@ -30,11 +27,10 @@ use Rattle.hart_fits.specs.Finals.{EndsOnce, FinalsBeginFit}
 use Rattle.hart_fits.specs.Fits.{HartFits}
 use Rattle.hart_fits.specs.Lemmas.Owners.{owners_end}
 use Rattle.hart_fits.specs.Over.{RunningIsNotOver}
-use Rattle.hart_linker.specs.Between.{AreCurrent, BlocksFit, Hears, IsAtRow, IsBetweenTurns}
+use Rattle.hart_linker.specs.Between.{BlocksFit, Hears, IsAtRow, IsBetweenTurns}
 use Rattle.hart_linker.specs.Finals.{BeginsLast}
 use Rattle.hart_linker.specs.declared.finals.Beginning.TheVariants as beginnings
 use Rattle.hart_linker.specs.Lemmas.Hearing.{blocks_told, early_on, row_told}
-use Rattle.kept_words.specs.Kept.{AreKept}
 use Rattle.link_keeper.specs.Keeping.{FirstGoesOn, KeepsView}
 use Rattle.link_keeper.proofs.Current.{current_of}
 use Rattle.link_keeper.proofs.Fitting.{others_behind}

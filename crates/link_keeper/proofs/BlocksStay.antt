@@ -1,5 +1,5 @@
 -- A hart's block of a module stays while the generation does.
-use Rattle.std.proofs.Common.{◌≡◌, ◌≢◌, ⊎_elim, ℕ, ◌+◌, ◌≤◌, ◌==◌, ◌&&◌, not, cond, suc, Bool, true, false, List, [], ◌∷◌, ◌++◌, length, filter, find, map, Option, None, Some, refl, sym, ap, subst, ◌∙◌, append-nil, arith}
+use Rattle.std.proofs.Common.{◌≡◌, ⊎_elim, ℕ, ◌+◌, ◌≤◌, ◌==◌, ◌&&◌, not, cond, suc, Bool, true, false, List, [], ◌∷◌, ◌++◌, length, filter, find, map, Option, None, Some, refl, sym, ap, subst, ◌∙◌, append-nil, arith}
 use Rattle.std.proofs.Math.Seq.{take-append_seam}
 use Rattle.std.specs.List.{Contains, slice_get}
 use Rattle.std.specs.Option.{is_some, option_and_then, option_map, option_map_or, option_or}

@@ -1,5 +1,5 @@
 -- What a call asks of thread-local storage, and what comes of it where there is no room.
-use Rattle.std.proofs.Common.{◌≡◌, ℕ, Bool, true, false, List, ◌∷◌, ◌++◌, [], length, drop, refl, sym, ap, ◌∙◌, subst, arith}
+use Rattle.std.proofs.Common.{◌≡◌, ℕ, true, false, List, ◌∷◌, ◌++◌, [], length, drop, refl, sym, ap, ◌∙◌, arith}
 use Rattle.std.proofs.lemmas.Bool.{false≢true}
 use Rattle.std.specs.Prelude.{IsTrue}
 use Rattle.std.specs.Result.{OnOk, is_err}
@@ -13,17 +13,16 @@ use Rattle.history_state.specs.Allowed.{MayEnd}
 use Rattle.history_state.specs.Setting.{Setting}
 use Rattle.history_calls.specs.Call.{Call, resolves, opens, looks_up, closes, unmaps, asks_fault, locates, writes, stops}
 use Rattle.history_calls.specs.Ends.{EndsAs, takes_memory}
-use Rattle.hart_moves.specs.Due.{Due, Return, due}
+use Rattle.hart_moves.specs.Due.{Due, due}
 use Rattle.hart_moves.specs.Harts.{HartState}
 use Rattle.hart_moves.specs.Moves.{ended, spent}
 use Rattle.link_state.specs.Table.{LinkTable, appended}
 use Rattle.world_memory.specs.declared.turn_answers.answered.MemoryChange.{MemoryChange}
 use Rattle.world_memory.specs.declared.turn_answers.answered.MemoryChange.TheVariants as change
 use Rattle.world_answers.specs.Answers.{is_service}
-use Rattle.world_answers.specs.GuestsPart.Counting.{Rise}
 use Rattle.world_answers.specs.GuestsPart.Lemmas.Counting.{spare_counts}
 use Rattle.world_turns.specs.Counts.{Counts, ShowInCounts}
-use Rattle.link_keeper.specs.Acting.{Acts, AsksStorage, NotLocating, OpenNothing, asks, gives_block, may_give_block}
+use Rattle.link_keeper.specs.Acting.{Acts, AsksStorage, OpenNothing, asks, gives_block, may_give_block}
 use Rattle.link_keeper.specs.declared.acting.Reply.{Reply}
 use Rattle.link_keeper.specs.declared.acting.Reply.TheVariants as reply
 use Rattle.link_keeper.specs.declared.acting.Storage.{Storage}

@@ -1,5 +1,5 @@
 -- The blocks that a hart keeps are its blocks of now.
-use Rattle.std.proofs.Common.{◌≡◌, ⊎_elim, inl, ℕ, suc, zero, ◌+◌, ◌<◌, ◌≤◌, ◌==◌, ◌&&◌, eq-eqb, ne_eqb, cond, Bool, true, false, if◌then◌else◌, List, [], ◌∷◌, ◌++◌, length, find, get_or, Option, None, Some, IsSome, refl, sym, ap, subst, ◌∙◌, arith}
+use Rattle.std.proofs.Common.{◌≡◌, ⊎_elim, inl, ℕ, suc, ◌+◌, ◌<◌, ◌==◌, ◌&&◌, eq-eqb, ne_eqb, cond, Bool, true, false, if◌then◌else◌, List, [], ◌∷◌, ◌++◌, length, find, Option, None, Some, refl, sym, ap, subst, ◌∙◌, arith}
 use Rattle.std.specs.List.{AllPairs, Contains}
 use Rattle.std.specs.Option.{option_map, option_map_or}
 use Rattle.std.proofs.lemmas.Bool.{and_from, and_parts, eqb-true, false≢true}
@@ -12,7 +12,7 @@ use Rattle.word_rule.specs.declared.view.HartView.{HartView}
 use Rattle.word_rule.specs.declared.view.KeeperView.{KeeperView}
 use Rattle.word_rule.specs.Layout.{harts_at_most}
 use Rattle.word_rule.specs.Views.{is_block, known_of, last_block, later_block, row_of}
-use Rattle.tls_blocks.specs.Blocks.{BlockTable, block_at}
+use Rattle.tls_blocks.specs.Blocks.{BlockTable}
 use Rattle.tls_blocks.specs.Numbers.{module_at}
 use Rattle.history_state.specs.After.{after}
 use Rattle.history_state.specs.Laws.{ModulesAreTidy}

@@ -2,7 +2,6 @@
 use Rattle.std.proofs.Common.{◌≡◌, ⊎_elim, inl, inr, ℕ, ◌<◌, ◌==◌, nat_lt, if◌then◌else◌, Bool, true, false, List, [], ◌∷◌, ◌++◌, drop, length, Option, None, Some, IsTrue, refl, sym, ap, subst, ◌∙◌, append-nil}
 use Rattle.std.proofs.Math.Seq.{drop-append_seam}
 use Rattle.std.specs.List.{Contains}
-use Rattle.std.specs.Prelude.{IfSome}
 use Rattle.std.proofs.lemmas.Bool.{and_parts, false≢true, ltb-true}
 use Rattle.history_event.specs.declared.event.Event.{Event}
 use Rattle.history_event.specs.declared.event.Event.TheVariants as events
@@ -33,16 +32,16 @@ use Rattle.world_turns.specs.WorldFrames.Laws.{FinalsFinish, FinalsPass}
 use Rattle.world_turns.specs.WorldFrames.Lemmas.Finals.{Top, head_is, none_above, top_of}
 use Rattle.world_answers.specs.GuestsPart.GuestWorlds.Worlds.{MayEndNow}
 use Rattle.world_answers.specs.ReturnsPart.FinalTurns.Laws.{FinalsGoOn, SettlingKeepsPlans}
-use Rattle.world_answers.specs.ReturnsPart.FinalTurns.Planned.{FinalsMayFollow, FinalsMayFollowIn, IsPlanned}
+use Rattle.world_answers.specs.ReturnsPart.FinalTurns.Planned.{FinalsMayFollow, IsPlanned}
 use Rattle.world_answers.specs.ReturnsPart.FinalTurns.Table.{FinalPlan, finis, plan_events}
 use Rattle.world_memory.specs.TurnAnswers.Changes.{LeaveMemory}
 use Rattle.world_memory.specs.declared.turn_answers.answered.MemoryChange.{MemoryChange}
 use Rattle.world_memory.specs.declared.turn_answers.answered.MemoryChange.TheVariants as change
-use Rattle.link_state.specs.Table.{LinkTable, appended}
+use Rattle.link_state.specs.Table.{LinkTable}
 use Rattle.link_keeper.specs.Acting.{Acts, Answers, OpenNothing}
 use Rattle.link_keeper.specs.Attending.{NobodysCame}
 use Rattle.link_keeper.specs.Entering.{AreQuiet}
-use Rattle.link_keeper.specs.Finalising.{HasEvents, HasPlan, IsPlannedOr, MayFinalise}
+use Rattle.link_keeper.specs.Finalising.{HasEvents, IsPlannedOr, MayFinalise}
 use Rattle.link_keeper.specs.declared.acting.Reply.{Reply}
 use Rattle.link_keeper.specs.declared.acting.Reply.TheVariants as reply
 use Rattle.link_keeper.proofs.Acted.{IsFree}
@@ -176,11 +175,14 @@ plan_on keeps old (e ∷ rest) nobodys plan x =
 
 pub planned_on : SettlingKeepsPlans → (old new : List Event) (b : HartState) (spare : ℕ) → NobodysCame old new → (plan : Option FinalPlan) → IsPlannedOr (after old) b spare plan → IsPlannedOr (after new) b spare plan
 planned_on keeps old new b spare came None x = tt
-planned_on keeps old new b spare came (Some plan) x = (record {
-  planned = subst (λ (es : List Event). IsPlanned (after es) plan) (sym came.are) (plan_on keeps old came.more came.nobodys plan x.0.planned);
-  is = x.0.is;
-  room = x.0.room;
-}, x.1)
+planned_on keeps old new b spare came (Some plan) x = (
+  record {
+    planned = subst (λ (es : List Event). IsPlanned (after es) plan) (sym came.are) (plan_on keeps old came.more came.nobodys plan x.0.planned);
+    is = x.0.is;
+    room = x.0.room;
+  },
+  x.1,
+)
 
 -- ---- its events
 

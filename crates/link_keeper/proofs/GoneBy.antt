@@ -6,12 +6,11 @@ use Rattle.std.proofs.lemmas.Bool.{false≢true}
 use Rattle.std.proofs.lemmas.List.{take_all}
 use Rattle.std.proofs.lemmas.List.Elements.{Contains-append_cases, Contains-append_right}
 use Rattle.history_event.specs.declared.event.Event.{Event}
-use Rattle.word_rule.specs.declared.entry.Entry.{Entry}
 use Rattle.word_rule.specs.declared.view.HartView.{HartView}
 use Rattle.word_rule.specs.declared.view.KeeperView.{KeeperView}
 use Rattle.word_rule.specs.declared.view.TrailItem.{TrailItem}
 use Rattle.word_rule.specs.Layout.{harts_at_most}
-use Rattle.word_rule.specs.Views.{IsLane, NoneAbove, known_of, readings_of, row_of}
+use Rattle.word_rule.specs.Views.{NoneAbove, known_of, readings_of, row_of}
 use Rattle.history_state.specs.After.{after}
 use Rattle.history_state.specs.Laws.{ModulesAreTidy}
 use Rattle.history_state.specs.Legal.{Lawful, Legal}
@@ -27,8 +26,8 @@ use Rattle.hart_fits.specs.Fits.{HartFits, OthersLeaveHart}
 use Rattle.hart_linker.specs.Between.{Hears, IsAtRow, IsBetweenTurns}
 use Rattle.hart_linker.specs.Lemmas.Hearing.{blocks_told, early_on}
 use Rattle.hart_linker.specs.Serving.{ServesTurn, is_finalising}
-use Rattle.hart_moves.specs.Due.{Due, due}
-use Rattle.hart_moves.specs.Follows.{HasNone, Turned, TurnsAt}
+use Rattle.hart_moves.specs.Due.{due}
+use Rattle.hart_moves.specs.Follows.{HasNone, TurnsAt}
 use Rattle.hart_moves.specs.Harts.{HartState, Resolving}
 use Rattle.hart_moves.specs.Moves.{Did, Moves, settled_resolving}
 use Rattle.hart_moves.specs.Trails.{Beside, beside_of}
@@ -202,7 +201,6 @@ module _ (others : OthersLeaveHart) (w : Setting) (given : List Event) (state : 
     runs = runs;
     acts = subst (λ (es : List Event). Acts w es t id b c spare does answer) (sym keeps.same) acts;
   }
-
 
 module _ (old between new own : List Event) (came : NobodysCame old between) (are : new ≡ between ++ own) where
   behind : new ≡ old ++ (came.more ++ own)

@@ -1,9 +1,9 @@
 -- A grant is posted to its hart, which reads it.
-use Rattle.std.proofs.Common.{◌≡◌, ◌≢◌, ◌⊎◌, ⊎_elim, inl, inr, ℕ, suc, ◌+◌, ◌-◌, ◌<◌, ◌≤◌, ◌==◌, true, false, if◌then◌else◌, Bool, List, [], ◌∷◌, ◌++◌, length, length-append, take, drop, Option, None, Some, refl, sym, ap, subst, ◌∙◌, append-nil, arith}
+use Rattle.std.proofs.Common.{◌≡◌, ◌≢◌, inl, ℕ, suc, ◌+◌, ◌-◌, ◌<◌, ◌≤◌, ◌==◌, true, false, if◌then◌else◌, Bool, List, [], ◌∷◌, ◌++◌, length, length-append, take, drop, Some, refl, sym, ap, subst, ◌∙◌, append-nil, arith}
 use mathlib.Core.Logic.{dite}
 use native.Mathlib.Decide.{ℕ_discrete}
 use Rattle.std.specs.List.{Contains, slice_get}
-use Rattle.std.proofs.lemmas.Bool.{eqb-true, eq-eqb, true≢false}
+use Rattle.std.proofs.lemmas.Bool.{eqb-true, eq-eqb}
 use Rattle.std.proofs.lemmas.List.{length-map, take-append-drop}
 use Rattle.std.proofs.lemmas.List.Elements.{Contains-append_left, Contains-append_right}
 use Rattle.ld_base.specs.declared.linking.Choice.{Choice}
@@ -22,7 +22,7 @@ use Rattle.word_rule.specs.declared.view.Row.{Row}
 use Rattle.word_rule.specs.KeeperSteps.{Waits}
 use Rattle.word_rule.specs.Layout.{harts_at_most}
 use Rattle.word_rule.specs.Lemmas.Heeding.{row_else, row_here}
-use Rattle.word_rule.specs.Views.{IsLong, known_of, row_of}
+use Rattle.word_rule.specs.Views.{known_of, row_of}
 use Rattle.word_steps.specs.Knowing.{counted}
 use Rattle.slot_bind.specs.Grants.{MayPost, grant_of, posted, row_posted}
 use Rattle.history_state.specs.Accepted.{AcceptsOnly}
@@ -34,11 +34,8 @@ use Rattle.history_state.specs.Lemmas.Tidy.{in_at}
 use Rattle.history_state.specs.Setting.{Machine, Setting}
 use Rattle.history_state.specs.State.{State}
 use Rattle.history_state.specs.Step.{die, initialise, loaded, lower, step, unmap}
-use Rattle.history_calls.specs.Laws.{hart_of}
 use Rattle.hart_moves.specs.Harts.{Offered}
-use Rattle.hart_moves.specs.Moves.{IsOffer}
 use Rattle.hart_moves.specs.Trails.{event_from, is_grant}
-use Rattle.hart_trails.specs.Entries.{IsExchange}
 use Rattle.link_state.specs.Granting.{HasOpenGrant}
 use Rattle.link_state.specs.Table.{LinkTable}
 use Rattle.kept_words.specs.Kept.{AreKept}
@@ -46,7 +43,7 @@ use Rattle.kept_words.specs.Posting.{IsNew, NewGrant, NewMayPost, PostedKept, ev
 use Rattle.kept_words.specs.Staying.{number_by, number_in}
 use Rattle.hart_linker.specs.Between.{HasGrant}
 use Rattle.link_keeper.specs.Handing.{HasGrantEvent, IsPassed, MayHandOver}
-use Rattle.link_keeper.specs.Keeping.{FirstGoesOn, KeepsView, WasOver}
+use Rattle.link_keeper.specs.Keeping.{KeepsView}
 use Rattle.link_keeper.specs.Passing.{InStep, has_read}
 use Rattle.link_keeper.proofs.Kept.{inside, later_number}
 use Rattle.link_keeper.proofs.Settled.{first_goes_on}

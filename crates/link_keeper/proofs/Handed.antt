@@ -1,17 +1,14 @@
 -- The events of a turn are passed: memory is remade by the first, it is counted, and the others follow.
-use Rattle.std.proofs.Common.{◌≡◌, ◌≢◌, ◌⊎◌, ⊎_elim, inl, inr, ℕ, ◌+◌, ◌<◌, ◌≤◌, true, false, List, [], ◌∷◌, ◌++◌, length, length-append, Option, None, Some, refl, sym, ap, subst, ◌∙◌, append-nil, append_assoc, arith}
+use Rattle.std.proofs.Common.{◌≡◌, ◌≢◌, ◌⊎◌, ⊎_elim, inl, inr, ℕ, ◌+◌, ◌<◌, ◌≤◌, true, false, List, [], ◌∷◌, ◌++◌, length, length-append, None, Some, refl, sym, ap, subst, ◌∙◌, append-nil, append_assoc, arith}
 use Rattle.std.specs.List.{Contains}
 use Rattle.std.proofs.lemmas.Bool.{false≢true}
-use Rattle.history_event.specs.declared.event.CloseAnswer.TheVariants as closes
 use Rattle.history_event.specs.declared.event.Event.{Event}
 use Rattle.history_event.specs.declared.event.Event.TheVariants as events
 use Rattle.history_event.specs.declared.event.OpenAnswer.TheVariants as opens
 use Rattle.history_event.specs.declared.state.Granting.{Granting}
 use Rattle.word_rule.specs.declared.entry.Entry.{Entry}
-use Rattle.word_rule.specs.declared.entry.Grant.{Grant}
 use Rattle.word_rule.specs.declared.view.HartView.{HartView}
 use Rattle.word_rule.specs.declared.view.KeeperView.{KeeperView}
-use Rattle.word_rule.specs.declared.view.Offer.{Offer}
 use Rattle.word_rule.specs.declared.view.Row.{Row}
 use Rattle.word_rule.specs.declared.view.TrailItem.{TrailItem}
 use Rattle.word_rule.specs.KeeperSteps.{handed}
@@ -41,8 +38,8 @@ use Rattle.kept_words.specs.Staying.{EventsStay, leaves_memory, number_in}
 use Rattle.world_memory.specs.declared.turn_answers.answered.MemoryChange.{MemoryChange}
 use Rattle.link_keeper.specs.Entering.{AreQuiet}
 use Rattle.link_keeper.specs.Handing.{HasEvents, IsPassed, MayHandOver}
-use Rattle.link_keeper.specs.Keeping.{AreOpen, FirstGoesOn, KeepsView, WasOver}
-use Rattle.link_keeper.specs.Passing.{HasPassed, InStep, IsNext, IsNextEntry, IsPassing, MayPass, PassesNext, left_of, took}
+use Rattle.link_keeper.specs.Keeping.{FirstGoesOn, KeepsView, WasOver}
+use Rattle.link_keeper.specs.Passing.{HasPassed, InStep, IsNext, IsPassing, MayPass, PassesNext, left_of, took}
 use Rattle.link_keeper.specs.Remaking.{ComesTo, Remakes}
 use Rattle.link_keeper.proofs.Kept.{inside, later_number, row_field}
 use Rattle.link_keeper.proofs.Rest.{first_entry, left_is, quiet_view, took_both, took_one}

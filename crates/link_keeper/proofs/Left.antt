@@ -7,7 +7,6 @@ use Rattle.std.specs.List.{Contains}
 use Rattle.std.specs.Option.{option_map_or}
 use Rattle.std.proofs.Math.Seq.{drop-append_seam}
 use Rattle.history_event.specs.declared.event.Event.{Event}
-use Rattle.word_rule.specs.declared.entry.Grant.{Grant}
 use Rattle.word_rule.specs.declared.view.HartView.{HartView}
 use Rattle.word_rule.specs.declared.view.KeeperView.{KeeperView}
 use Rattle.word_rule.specs.declared.view.Row.{Row}
@@ -48,9 +47,9 @@ pub leaves_open : (k0 k l : KeeperView) (h : ℕ) (own : List Event) → Nobodys
 leaves_open k0 k l h own came found events all others m g low waits = dite (ℕ_discrete m h)
     (λ (here_is : m ≡ h). inl here_is)
     (λ (apart : m ≢ h). inr (⊎_elim
-      (λ (stays : row_of l m ≡ row_of k m). inl (ap (λ (r : Row). r.found_open) stays ∙ (found m low g (sym (ap (λ (r : Row). r.pending) stays) ∙ waits)).0))
-      (λ (several : 1 < length own). inr (subst (λ (es : List Event). 1 < length es) (sym its_own) several))
-      (others m apart)))
+    (λ (stays : row_of l m ≡ row_of k m). inl (ap (λ (r : Row). r.found_open) stays ∙ (found m low g (sym (ap (λ (r : Row). r.pending) stays) ∙ waits)).0))
+    (λ (several : 1 < length own). inr (subst (λ (es : List Event). 1 < length es) (sym its_own) several))
+    (others m apart)))
   where
     whole : l.events ≡ k0.events ++ (came.more ++ own)
     whole = events ∙ ap (λ (es : List Event). es ++ own) came.are ∙ append_assoc k0.events came.more own

@@ -1,9 +1,9 @@
 -- A turn that was taken is handed over to its hart.
-use Rattle.std.proofs.Common.{◌≡◌, ◌⊎◌, ⊎_elim, inl, inr, ℕ, ◌<◌, ◌≤◌, ◌==◌, true, false, if◌then◌else◌, Bool, List, [], ◌∷◌, ◌++◌, length, map, Option, None, Some, refl, sym, ap, subst, ◌∙◌, append-nil, append_assoc, arith}
+use Rattle.std.proofs.Common.{◌≡◌, ◌⊎◌, ⊎_elim, inl, inr, ℕ, ◌==◌, true, false, if◌then◌else◌, Bool, List, [], ◌∷◌, ◌++◌, length, map, Option, None, Some, refl, sym, ap, subst, ◌∙◌, append-nil}
 use Rattle.std.specs.Prelude.{IsSome, find}
 use Rattle.std.specs.Option.{is_some, option_map_or}
 use Rattle.std.specs.List.{Contains}
-use Rattle.std.proofs.lemmas.Bool.{eq-eqb, false≢true}
+use Rattle.std.proofs.lemmas.Bool.{eq-eqb}
 use Rattle.ld_base.specs.declared.fault.Shown.{Shown}
 use Rattle.history_event.specs.declared.event.Event.{Event}
 use Rattle.history_event.specs.declared.event.Event.TheVariants as events
@@ -19,11 +19,9 @@ use Rattle.history_state.specs.Lemmas.History.{after_push, legal_is_lawful, lega
 use Rattle.history_state.specs.Lemmas.Lists.{first_or_later, found_in, none_in}
 use Rattle.history_state.specs.Setting.{Setting}
 use Rattle.history_state.specs.State.{State}
-use Rattle.history_state.specs.Step.{step}
 use Rattle.history_state.specs.Storage.{tls_block}
-use Rattle.history_calls.specs.Call.{Call, locates}
+use Rattle.history_calls.specs.Call.{locates}
 use Rattle.history_calls.specs.Gives.{HasBlock}
-use Rattle.history_calls.specs.Laws.{hart_of}
 use Rattle.history_journal.specs.Following.{machine_of}
 use Rattle.hart_fits.specs.Fits.{HartFits, IsBefore, IsInFinals}
 use Rattle.hart_fits.specs.Lemmas.Owners.{owners_end}
@@ -40,7 +38,7 @@ use Rattle.hart_moves.specs.TurnEvents.Laws.{TurnsAppend}
 use Rattle.hart_seat.specs.HartParts.Views.{offered_of}
 use Rattle.hart_seat.specs.declared.hart_parts.due.Offered.{Offered}
 use Rattle.hart_trails.specs.Entries.{again_entry, block_entry, entry_behind, module_of}
-use Rattle.hart_trails.specs.Trails.{Leaves, Reads, is_granting, took_behind}
+use Rattle.hart_trails.specs.Trails.{Leaves, Reads, took_behind}
 use Rattle.link_state.specs.Table.{LinkTable}
 use Rattle.tls_blocks.specs.Numbers.{module_at}
 use Rattle.world_memory.specs.TurnAnswers.Changes.{Changes}
@@ -48,10 +46,9 @@ use Rattle.world_memory.specs.declared.turn_answers.answered.MemoryChange.{Memor
 use Rattle.world_turns.specs.WorldEnds.Lemmas.Endings.{sparing_events}
 use Rattle.kept_words.specs.Handed.{IsIssued}
 use Rattle.kept_words.specs.Posting.{NewGrant, event_of, granting_of}
-use Rattle.link_keeper.specs.Acting.{Acts, Answers, ComesToEvents, IsDone, is_storing, is_tls}
-use Rattle.link_keeper.specs.Entering.{AreQuiet}
+use Rattle.link_keeper.specs.Acting.{Answers, ComesToEvents, IsDone, is_storing, is_tls}
 use Rattle.link_keeper.specs.Handing.{HasEvents, HasGrantEvent, IsPassed, MayHandOver, is_stored}
-use Rattle.link_keeper.specs.Keeping.{KeepsView, WasOver}
+use Rattle.link_keeper.specs.Keeping.{WasOver}
 use Rattle.link_keeper.specs.Serving.{IsHandedOver, IsTaken}
 use Rattle.link_keeper.specs.declared.acting.Reply.{Reply}
 use Rattle.link_keeper.specs.declared.acting.Reply.TheVariants as reply

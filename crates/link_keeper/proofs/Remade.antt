@@ -1,5 +1,5 @@
 -- Memory is remade by the events of a turn.
-use Rattle.std.proofs.Common.{◌≡◌, ⊎_elim, inl, inr, ℕ, ◌≤◌, Bool, true, false, List, [], ◌∷◌, ◌++◌, filter, flat_map, None, Some, not, refl, sym, ap, subst, ◌∙◌, arith}
+use Rattle.std.proofs.Common.{◌≡◌, ⊎_elim, inl, inr, ℕ, ◌≤◌, false, List, [], ◌∷◌, ◌++◌, filter, flat_map, None, Some, not, refl, sym, ap, subst, ◌∙◌, arith}
 use Rattle.std.specs.List.{Contains, slice_get}
 use Rattle.std.proofs.lemmas.Bool.{false≢true}
 use Rattle.ld_base.specs.declared.linking.Loaded.{Loaded}
@@ -11,10 +11,8 @@ use Rattle.history_event.specs.declared.event.Range.{Range}
 use Rattle.history_event.specs.declared.event.SymAnswer.TheVariants as syms
 use Rattle.seg_image.specs.declared.image.Image.{Image}
 use Rattle.seg_image.specs.declared.image.Word.{Word}
-use Rattle.word_rule.specs.declared.entry.Grant.{Grant}
 use Rattle.word_rule.specs.declared.view.KeeperView.{KeeperView}
 use Rattle.word_rule.specs.declared.view.Sight.{Sight}
-use Rattle.word_rule.specs.Layout.{harts_at_most}
 use Rattle.word_rule.specs.Views.{IsLong, kept_at, row_of}
 use Rattle.history_calls.specs.Served.{AreImages, InstallsNothing, is_area, slots_of}
 use Rattle.history_calls.specs.declared.link_served.installs.Installs.{Installs}

@@ -1,5 +1,5 @@
 -- A turn that asks, once it is handed over to its hart.
-use Rattle.std.proofs.Common.{◌≡◌, ⊎_elim, ℕ, zero, suc, ◌+◌, ◌<◌, ◌≤◌, ◌==◌, ◌&&◌, true, false, if◌then◌else◌, IsSome, List, [], ◌∷◌, ◌++◌, length, length-append, drop, take, Option, None, Some, refl, sym, ap, subst, ◌∙◌, append-nil, append_assoc, arith}
+use Rattle.std.proofs.Common.{◌≡◌, ⊎_elim, ℕ, zero, suc, ◌+◌, ◌<◌, ◌≤◌, ◌==◌, ◌&&◌, true, false, if◌then◌else◌, IsSome, List, [], ◌∷◌, ◌++◌, length, length-append, take, None, Some, refl, sym, ap, subst, ◌∙◌, append-nil, append_assoc, arith}
 use Rattle.std.proofs.Math.Seq.{drop-append_seam, take-append_seam}
 use Rattle.std.specs.List.{Contains, slice_get}
 use Rattle.std.proofs.lemmas.List.Elements.{Contains-append_cases}
@@ -7,16 +7,15 @@ use Rattle.history_event.specs.declared.event.Event.{Event}
 use Rattle.word_rule.specs.declared.entry.Entry.{Entry}
 use Rattle.word_rule.specs.declared.view.HartView.{HartView}
 use Rattle.word_rule.specs.declared.view.KeeperView.{KeeperView}
-use Rattle.word_rule.specs.declared.view.Row.{Row}
 use Rattle.word_rule.specs.declared.view.TrailItem.{TrailItem}
 use Rattle.word_rule.specs.Layout.{harts_at_most}
-use Rattle.word_rule.specs.Views.{BeginsWith, NoneAbove, known_of, readings_of, row_of}
+use Rattle.word_rule.specs.Views.{NoneAbove, known_of, readings_of}
 use Rattle.history_state.specs.After.{after}
 use Rattle.history_state.specs.Laws.{ModulesAreTidy}
 use Rattle.history_state.specs.Legal.{Lawful, Legal}
 use Rattle.history_state.specs.Objects.{is_startup}
 use Rattle.history_state.specs.Lemmas.History.{legal_is_lawful}
-use Rattle.history_state.specs.Lemmas.Lists.{here, later, only_in}
+use Rattle.history_state.specs.Lemmas.Lists.{only_in}
 use Rattle.history_state.specs.Read.{BeginsUntouched}
 use Rattle.history_state.specs.Setting.{Machine, Setting}
 use Rattle.history_state.specs.Slots.{HasNoGrant}
@@ -25,7 +24,7 @@ use Rattle.history_event.specs.declared.state.Module.{Module}
 use Rattle.history_journal.specs.Following.{machine_of}
 use Rattle.hart_fits.specs.Finals.{OwnMovesFit}
 use Rattle.hart_fits.specs.Fits.{HartFits, OthersLeaveHart}
-use Rattle.hart_linker.specs.Between.{AreCurrent, BlocksFit, HasHeard, IsAtRow, IsBetweenTurns}
+use Rattle.hart_linker.specs.Between.{AreCurrent, BlocksFit, IsAtRow, IsBetweenTurns}
 use Rattle.hart_linker.specs.Serving.{ServesTurn, is_asking}
 use Rattle.hart_moves.specs.Due.{due}
 use Rattle.hart_moves.specs.Follows.{HasNone, Turned, TurnsAt}
@@ -46,10 +45,10 @@ use Rattle.link_keeper.specs.Handing.{KeepsAnswer, MayHandOver, is_stored}
 use Rattle.link_keeper.specs.Keeping.{KeepsState}
 use Rattle.link_keeper.specs.Serving.{IsHandedOver, IsTaken}
 use Rattle.link_keeper.specs.declared.acting.Reply.{Reply}
-use Rattle.link_keeper.proofs.Acted.{IsFree, is_free}
+use Rattle.link_keeper.proofs.Acted.{is_free}
 use Rattle.link_keeper.proofs.Current.{current_of}
 use Rattle.link_keeper.proofs.Ended.{idle_known}
-use Rattle.link_keeper.proofs.Ending.{IsPlain, event_plain, heard_on}
+use Rattle.link_keeper.proofs.Ending.{event_plain, heard_on}
 use Rattle.link_keeper.proofs.Fitting.{fits_on}
 use Rattle.link_keeper.proofs.Stored.{blocks_fit}
 

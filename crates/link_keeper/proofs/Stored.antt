@@ -1,5 +1,5 @@
 -- The blocks that a hart keeps, behind the answers that it got.
-use Rattle.std.proofs.Common.{◌≡◌, ⊎_elim, ℕ, ◌<◌, ◌≤◌, ◌==◌, ◌&&◌, Bool, true, false, cond, if◌then◌else◌, List, [], ◌∷◌, ◌++◌, Option, None, Some, append_assoc, refl, sym, ap, subst, ◌∙◌, eq-eqb, ne_eqb, arith}
+use Rattle.std.proofs.Common.{◌≡◌, ℕ, ◌<◌, ◌≤◌, ◌==◌, ◌&&◌, Bool, true, false, cond, if◌then◌else◌, List, [], ◌∷◌, ◌++◌, Option, None, Some, append_assoc, refl, sym, ap, ◌∙◌, eq-eqb, ne_eqb, arith}
 use mathlib.Core.Logic.{dite}
 use native.Mathlib.Decide.{ℕ_discrete}
 use Rattle.std.proofs.Math.Bool.{and-false, and-true}
@@ -7,7 +7,6 @@ use Rattle.std.specs.List.{Contains}
 use Rattle.word_rule.specs.declared.entry.Entry.{Entry}
 use Rattle.word_rule.specs.declared.view.HartView.{HartView}
 use Rattle.word_rule.specs.Views.{is_block, known_of, last_block, later_block}
-use Rattle.history_state.specs.Lemmas.Lists.{here, later}
 use Rattle.tls_blocks.specs.Blocks.{BlockTable, block_at}
 use Rattle.hart_linker.specs.Between.{BlocksFit}
 use Rattle.link_keeper.specs.Handing.{KeepsAnswer, is_stored}

@@ -1,5 +1,5 @@
 -- What comes of a turn that asks, by what its call was answered.
-use Rattle.std.proofs.Common.{◌≡◌, ◌⊎◌, ⊎_elim, inl, inr, ℕ, ◌+◌, ◌<◌, ◌≤◌, nat_lt, ◌||◌, Bool, true, false, if◌then◌else◌, List, [], ◌∷◌, ◌++◌, length, length-append, drop, Option, None, Some, refl, sym, ap, subst, ◌∙◌, append-nil, append_assoc, arith}
+use Rattle.std.proofs.Common.{◌≡◌, ◌⊎◌, ⊎_elim, inl, inr, ℕ, ◌<◌, nat_lt, ◌||◌, Bool, true, false, if◌then◌else◌, List, [], ◌∷◌, ◌++◌, length, length-append, drop, Option, Some, refl, sym, ap, subst, ◌∙◌, append-nil, append_assoc, arith}
 use Rattle.std.proofs.Math.Seq.{drop-append_seam}
 use Rattle.std.proofs.lemmas.Bool.{le-ltb, lt-ltb, ltb-true}
 use Rattle.std.proofs.lemmas.List.{append_cancel_left}
@@ -11,21 +11,18 @@ use Rattle.history_event.specs.declared.event.Event.TheVariants as events
 use Rattle.history_event.specs.declared.event.OpenAnswer.TheVariants as openings
 use Rattle.history_event.specs.declared.event.OpenAsk.{OpenAsk}
 use Rattle.history_event.specs.declared.hart_end.HartEnd.{HartEnd}
-use Rattle.history_event.specs.declared.hart_end.HartEnd.TheVariants as ends
 use Rattle.history_event.specs.declared.state.Granting.{Granting}
 use Rattle.history_state.specs.After.{after}
 use Rattle.history_state.specs.Allowed.{MayEnd}
-use Rattle.history_state.specs.Changes.{reserved, taken}
 use Rattle.history_state.specs.Lemmas.History.{after_push}
 use Rattle.history_state.specs.Lemmas.Lists.{here}
 use Rattle.history_event.specs.declared.state.Standing.TheVariants.{Open}
 use Rattle.history_journal.specs.Following.{machine_of}
 use Rattle.history_state.specs.Setting.{Setting}
 use Rattle.history_state.specs.State.{State}
-use Rattle.history_state.specs.Step.{step}
-use Rattle.history_calls.specs.Answer.{Answer, returns, loading, closing, refused, granted, told, again, over}
+use Rattle.history_calls.specs.Answer.{Answer, returns, granted, again, over}
 use Rattle.history_calls.specs.Call.{Call, resolves, opens, looks_up, closes, unmaps, asks_fault, locates, writes, stops}
-use Rattle.history_calls.specs.CallLaws.Counts.{ArePaths, ShowsInCounts}
+use Rattle.history_calls.specs.CallLaws.Counts.{ArePaths}
 use Rattle.history_calls.specs.Ends.{EndsAs}
 use Rattle.history_calls.specs.Gives.{EventAnswers, Gives, HasBlock, Serves, ending, variable_at}
 use Rattle.history_calls.specs.Served.{AreBlockInstalls, InstallsNothing, Makes}
@@ -40,12 +37,10 @@ use Rattle.hart_moves.specs.Moves.{Calls, Did, IsOffer, Moves, MovesAs, ended, e
 use Rattle.hart_moves.specs.Waiting.{awaiting}
 use Rattle.hart_seat.specs.HartParts.Views.{offered_of}
 use Rattle.hart_seat.specs.declared.hart_parts.due.Offered.{Offered}
-use Rattle.hart_trails.specs.Trails.{is_granting}
 use Rattle.link_state.specs.Locating.{IsLocated, IsNotLocated}
 use Rattle.link_state.specs.Table.{LinkTable, appended}
 use Rattle.link_state.specs.declared.faults.TlsFault.{TlsFault}
 use Rattle.link_state.specs.declared.faults.TlsFault.TheVariants as tls
-use Rattle.scope_rule.specs.Finding.{candidates}
 use Rattle.world_answers.specs.Faults.{tls_end}
 use Rattle.world_answers.specs.GuestsPart.Counting.{Rise, is_refusal}
 use Rattle.world_answers.specs.ReturnsPart.Completing.{is_complete}
@@ -56,7 +51,7 @@ use Rattle.world_answers.specs.ReturnsPart.Answering.{WasAnswered}
 use Rattle.history_calls.specs.CallLaws.Coming.{IsOver}
 use Rattle.ld_base.specs.declared.linking.File.{File}
 use Rattle.world_memory.specs.TurnAnswers.Answered.{AnswersTurn, IsAnswered}
-use Rattle.world_memory.specs.TurnAnswers.Changes.{Changes, LeaveMemory}
+use Rattle.world_memory.specs.TurnAnswers.Changes.{LeaveMemory}
 use Rattle.world_memory.specs.TurnAnswers.Turn.{TakesService}
 use Rattle.world_memory.specs.declared.turn_answers.answered.Answered.{Answered}
 use Rattle.world_memory.specs.declared.turn_answers.answered.Answered.TheVariants as answered
@@ -68,7 +63,7 @@ use Rattle.link_keeper.specs.Acting.{Acts, Answers, ComesToEvents, IsDone, NotLo
 use Rattle.link_keeper.specs.Keeping.{is_opening}
 use Rattle.link_keeper.specs.declared.acting.Reply.{Reply}
 use Rattle.link_keeper.specs.declared.acting.Reply.TheVariants as reply
-use Rattle.link_keeper.proofs.Acted.{HasFirst, HasNone, IsFree, all_open_none, Shape, calls_come, completes_come, is_again, is_grant, never, shape}
+use Rattle.link_keeper.proofs.Acted.{HasFirst, IsFree, all_open_none, Shape, calls_come, completes_come, is_again, is_grant, never, shape}
 
 -- ---- calls
 
@@ -610,9 +605,9 @@ events_shown folders w past mid new h b c did old now rise moves are x back coun
 other_opens : {w : Setting} {past : List Event} {h : ℕ} {b c : HartState} {did : Did} {r : Reply} → Answers w past h b c did r → (r ≡ reply.Events → ⊥) → OpenNothing (events_of did)
 other_opens (Answers.by_events x) other = absurd (other refl)
 other_opens (Answers.by_grant g o is hart offer leaves) other = subst (λ (d : Did). OpenNothing (events_of d)) (sym is) (refl, tt)
-other_opens (Answers.by_block number offset block back at is has done) other = subst (λ (d : Did). OpenNothing (events_of d)) (sym is) tt
-other_opens (Answers.by_again call for is shows done) other = subst (λ (d : Did). OpenNothing (events_of d)) (sym is) tt
-other_opens (Answers.by_waiting for at is done) other = subst (λ (d : Did). OpenNothing (events_of d)) (sym is) tt
+other_opens (Answers.by_block number offset block back at is has rests) other = subst (λ (d : Did). OpenNothing (events_of d)) (sym is) tt
+other_opens (Answers.by_again call for is shows rests) other = subst (λ (d : Did). OpenNothing (events_of d)) (sym is) tt
+other_opens (Answers.by_waiting for at is rests) other = subst (λ (d : Did). OpenNothing (events_of d)) (sym is) tt
 
 pub other_shown : (folders : List (List ℕ)) (w : Setting) (past : List Event) (state : LinkTable) (h : ℕ) (b c : HartState) (spare : ℕ) (does : MemoryChange) (r : Reply) (old now : Counts) → Rise old now
     → Acts w past state h b c spare does r → (r ≡ reply.Events → ⊥) → ShowInCounts folders (drop (length past) state.events) old now
@@ -661,7 +656,7 @@ pub unlocated_opens : (old mid new : LinkTable) (h number : ℕ) (fault : TlsFau
     → OpenNothing (drop (length old.events) new.events)
 unlocated_opens old mid new h number fault reason none noted =
     subst OpenNothing (sym (ap (drop (length old.events)) (ap (λ (t : LinkTable). t.events) noted ∙ ap (λ (t : LinkTable). t.events ++ events.Ended h reason ∷ []) (unlocated_is old mid h number fault none))
-        ∙ drop-append_seam old.events (events.Ended h reason ∷ []))) (refl, tt)
+    ∙ drop-append_seam old.events (events.Ended h reason ∷ []))) (refl, tt)
 
 -- ---- a turn over a state that the turn before it left as it was
 

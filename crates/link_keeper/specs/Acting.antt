@@ -1,5 +1,5 @@
 -- Turns that the linker's state takes alone, and by what each is answered. For the code of this crate alone.
-use Rattle.std.specs.Prelude.{◌≡◌, ℕ, ◌<◌, Bool, true, false, List, [], ◌∷◌, ◌++◌, Option, Some, None}
+use Rattle.std.specs.Prelude.{◌≡◌, ℕ, ◌<◌, Bool, true, false, List, [], ◌∷◌, ◌++◌}
 use Rattle.std.specs.List.{AllByRecursion}
 use Rattle.ld_base.specs.declared.fault.Shown.{Shown}
 use Rattle.history_event.specs.declared.event.Event.{Event}

@@ -18,7 +18,7 @@ use Rattle.tls_blocks.specs.Blocks.{BlockTable, block_at}
 use Rattle.link_state.specs.Table.{LinkTable}
 use Rattle.world_memory.specs.TurnAnswers.Changes.{Changes}
 use Rattle.world_memory.specs.declared.turn_answers.answered.MemoryChange.{MemoryChange}
-use Rattle.kept_words.specs.Handed.{IsIssued, is_event_mark}
+use Rattle.kept_words.specs.Handed.{is_event_mark}
 use Rattle.kept_words.specs.Posting.{NewGrant, event_of, granting_of}
 use Rattle.link_keeper.specs.Entering.{AreQuiet}
 use Rattle.link_keeper.specs.Keeping.{KeepsView, WasOver}

@@ -183,7 +183,12 @@ fn storage_by(asked: &Call<'_>) -> Storage
 }
 
 /// The call ends its hart, which is noted.
-pub(crate) fn end_call(state: &mut LinkState, id: HartId, hart: &mut LinkedHart, reason: HartEnd) -> Acted
+pub(crate) fn end_call(
+    state: &mut LinkState,
+    id: HartId,
+    hart: &mut LinkedHart,
+    reason: HartEnd,
+) -> Acted
     requires fuel { hart.old.hart.turns < hart.old.hart.fuel }
     requires may { MayEndNow state.old.harts state.old.events id }
     ensures hart { hart.new.hart ≡ ended reason (spent hart.old.hart) }
@@ -235,13 +240,7 @@ fn locate<J: Opening>(
 }
 
 /// The request returns with the address of its variable in a block, which is new or was there.
-fn give_block(
-    hart: &mut LinkedHart,
-    number: u64,
-    offset: u64,
-    block: u64,
-    is_new: bool,
-) -> Acted
+fn give_block(hart: &mut LinkedHart, number: u64, offset: u64, block: u64, is_new: bool) -> Acted
     requires { hart.old.hart.turns < hart.old.hart.fuel }
     ensures hart { hart.new.hart ≡ spent (returning (back hart.old.hart) (variable_at block offset) (freed hart.old.hart)) }
     ensures reply { result.reply ≡ (if is_new then Reply.Events else Reply.Block number block) }

@@ -1,4 +1,4 @@
-use Rattle.std.proofs.Common.{◌≡◌, ◌<◌, ℕ, false, true, refl, sym, ap, subst, ◌∙◌}
+use Rattle.std.proofs.Common.{◌<◌, ℕ, refl, sym, ap, subst, ◌∙◌}
 use Rattle.history_calls.specs.CallLaws.Coming.{IsOver}
 use Rattle.history_journal.specs.Following.{machine_of}
 use Rattle.history_state.specs.After.{after}

@@ -10,7 +10,7 @@ use Rattle.world_memory.specs.TurnAnswers.Turn.{TakesService}
 use Rattle.link_keeper.specs.Acting.{Acts}
 use Rattle.link_keeper.specs.declared.acting.Reply.TheVariants as reply
 use Rattle.link_keeper.proofs.Premises.{free, makes_call}
-use Rattle.link_keeper.proofs.Taken.{again_acts, comes, events_act, events_shown, grant_acts, other_shown, others_meet, refused_alone, turn_of, was_answered}
+use Rattle.link_keeper.proofs.Taken.{again_acts, comes, events_act, events_shown, grant_acts, other_shown, others_meet, refused_alone, was_answered}
 use Rattle.link_keeper.proofs.acting.ask.Given.{Over}
 use Rattle.link_keeper.proofs.acting.ask.Goals as goal
 
@@ -85,7 +85,7 @@ returns-in_default g c =
     let rest = others_meet t (λ o is. c.in_default.not-Granted o is) (λ for is. c.in_default.not-Again for is) in
     let x : TakesService w past c.take_answer.new.state.events c.take_answer.new.state.made h (due (after past) b) b left c.take_answer.result =
     subst (λ (y : HartState). TakesService w past c.take_answer.new.state.events c.take_answer.new.state.made h (due (after past) y) y left c.take_answer.result) came.ensures.hart
-        (c.take_answer.ensures.turn w past (subst (λ (y : HartState). AnswersTurn w past came.new.state.events came.new.state.made h (due (after past) y) came.result) (sym came.ensures.hart) t)) in
+    (c.take_answer.ensures.turn w past (subst (λ (y : HartState). AnswersTurn w past came.new.state.events came.new.state.made h (due (after past) y) came.result) (sym came.ensures.hart) t)) in
     let events = comes w came.new.state past h b left f came.new.state.made came.result t c.requires.other rest c.take_answer.new.state c.take_answer.result c.take_answer.ensures.noted x in
     record {
       acts = λ spare room. events_act w came.new.state past h b left f came.new.state.made came.result t c.requires.other rest c.take_answer.new.state c.take_answer.result c.take_answer.ensures.noted x

@@ -1,13 +1,11 @@
-use Rattle.std.proofs.Common.{◌≡◌, ◌<◌, true, refl, sym, ap, subst, ◌∙◌, ℕ}
+use Rattle.std.proofs.Common.{◌<◌, refl, sym, ap, subst, ◌∙◌}
 use Rattle.std.proofs.lemmas.Bool.{false≢true}
 use Rattle.history_state.specs.After.{after}
 use Rattle.hart_moves.specs.Due.{due}
 use Rattle.tls_blocks.specs.Blocks.{BlockTable}
-use Rattle.link_keeper.specs.Acting.{asks, may_give_block}
-use Rattle.link_keeper.specs.declared.acting.Storage.{Storage}
+use Rattle.link_keeper.specs.Acting.{asks}
 use Rattle.link_keeper.proofs.Called.{asks_it, on_ok, quiet_shown, roomless_acts}
 use Rattle.link_keeper.proofs.Premises.{end_here, ends_now, free}
-use Rattle.link_keeper.proofs.acting.call.Given.{Over}
 use Rattle.link_keeper.proofs.acting.call.Goals as goal
 use Rattle.link_keeper.proofs.acting.call.Goals.{else-asks_storage-via-then-asks_storage+else-is_err, else-asks_storage-via-else-asks_storage}
 

@@ -1,4 +1,4 @@
-use Rattle.std.proofs.Common.{◌≡◌, nat_lt, Bool, length, refl, sym, ap, subst, ◌∙◌}
+use Rattle.std.proofs.Common.{nat_lt, length, sym, ap, subst, ◌∙◌}
 use Rattle.history_event.specs.declared.event.Event.TheVariants.{Ended}
 use Rattle.history_event.specs.declared.hart_end.HartEnd.{HartEnd}
 use Rattle.hart_moves.specs.Moves.{ended, spent}

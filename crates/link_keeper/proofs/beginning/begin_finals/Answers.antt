@@ -1,10 +1,9 @@
-use Rattle.std.proofs.Common.{◌≡◌, ℕ, Bool, true, false, [], List, IsTrue, refl, sym, ap, subst, ◌∙◌}
+use Rattle.std.proofs.Common.{◌≡◌, Bool, true, false, List, IsTrue, refl, sym, ap, subst, ◌∙◌}
 use Rattle.std.specs.Bool.{OnFalse, OnTrue}
 use Rattle.std.proofs.lemmas.Bool.{false≢true, true≢false}
 use Rattle.history_event.specs.declared.event.Event.{Event}
 use Rattle.history_state.specs.After.{after}
 use Rattle.history_state.specs.Setting.{are_finals, have_exited}
-use Rattle.hart_moves.specs.Harts.{HartState}
 use Rattle.hart_moves.specs.Moves.{all_finis}
 use Rattle.hart_moves.specs.Starting.{starting_registers}
 use Rattle.word_rule.specs.declared.view.HartView.{HartView}

@@ -1,4 +1,4 @@
-use Rattle.std.proofs.Common.{◌≡◌, ℕ, List, sym, ap, ◌∙◌}
+use Rattle.std.proofs.Common.{ℕ, List, sym, ap, ◌∙◌}
 use Rattle.history_event.specs.declared.event.Event.{Event}
 use Rattle.history_state.specs.Setting.{Machine}
 use Rattle.link_keeper.specs.Beginning.{ends_in, first_exited}

@@ -81,7 +81,7 @@ returns-clause-settled g c = leaves_open c.args.keeper.now c.attend.new.keeper c
     c.id_of-id.ensures c.requires.run (c.number.ensures.lane.idle c.requires.calling) c.attend.ensures.attends c.ended.ensures c.pass_next.ensures.passed c.stop.ensures).events
     (λ e there. ap hart_of (sym (only_in (Ended c.id_of-id.result c.args.reason) e there)) ∙ ap (λ (n : ℕ). Some n) c.id_of-id.ensures)
     (λ m apart. inl (passes_else c.attend.new.keeper c.pass_next.new.keeper c.attend.new.seat c.pass_next.new.seat c.id_of-id.result (Ended c.id_of-id.result c.args.reason) c.attend.ensures.keeps.view.kept.long
-      (subst (λ n. n < 16) (c.number.ensures.number ∙ sym c.id_of-id.ensures) c.number.ensures.low)
-      (c.pass_next.ensures.passed (Ended c.id_of-id.result c.args.reason) [] (end_next c.harts_fit.ensures.others c.running_is_not_over.ensures.runs c.harts_fit.ensures.may_end g.J.Opening.setting g.J.Opening.journal c.attend.new.state c.attend.new.keeper c.args.seat.now
-      c.attend.new.seat c.id_of-id.result c.attend.ensures.keeps c.requires.heard c.id_of-id.ensures c.requires.run c.attend.ensures.attends c.states_stay.ensures.events c.records_stay.ensures.quiet c.args.reason
-      c.ended.new.self (ap (λ (t : LinkTable). t.events) c.ended.ensures) (ap (λ (t : LinkTable). t.harts) c.ended.ensures))) m (λ same. apart (same ∙ c.id_of-id.ensures))))
+    (subst (λ n. n < 16) (c.number.ensures.number ∙ sym c.id_of-id.ensures) c.number.ensures.low)
+    (c.pass_next.ensures.passed (Ended c.id_of-id.result c.args.reason) [] (end_next c.harts_fit.ensures.others c.running_is_not_over.ensures.runs c.harts_fit.ensures.may_end g.J.Opening.setting g.J.Opening.journal c.attend.new.state c.attend.new.keeper c.args.seat.now
+    c.attend.new.seat c.id_of-id.result c.attend.ensures.keeps c.requires.heard c.id_of-id.ensures c.requires.run c.attend.ensures.attends c.states_stay.ensures.events c.records_stay.ensures.quiet c.args.reason
+    c.ended.new.self (ap (λ (t : LinkTable). t.events) c.ended.ensures) (ap (λ (t : LinkTable). t.harts) c.ended.ensures))) m (λ same. apart (same ∙ c.id_of-id.ensures))))

@@ -1,11 +1,10 @@
-use Rattle.std.proofs.Common.{◌≡◌, inl, ℕ, List, [], ◌++◌, drop, length, refl, sym, ap, subst, ◌∙◌}
+use Rattle.std.proofs.Common.{inl, List, [], ◌++◌, drop, length, refl, sym, ap, subst, ◌∙◌}
 use Rattle.std.specs.List.{Contains}
 use Rattle.history_event.specs.declared.event.Event.{Event}
 use Rattle.history_journal.specs.Following.{machine_of}
 use Rattle.history_state.specs.After.{after}
 use Rattle.history_state.specs.Legal.{Legal}
 use Rattle.hart_fits.specs.Fits.{HartFits}
-use Rattle.hart_linker.specs.Serving.{ServesTurn}
 use Rattle.hart_moves.specs.Harts.{HartState}
 use Rattle.hart_moves.specs.Moves.{Did, Moves, events_of}
 use Rattle.word_rule.specs.declared.view.HartView.{HartView}

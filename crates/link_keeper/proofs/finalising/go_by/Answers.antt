@@ -1,4 +1,4 @@
-use Rattle.std.proofs.Common.{◌≡◌, if◌then◌else◌, List, ◌++◌, sym, ap, ◌∙◌, append-nil}
+use Rattle.std.proofs.Common.{if◌then◌else◌, List, ◌++◌, sym, ap, ◌∙◌, append-nil}
 use Rattle.history_event.specs.declared.event.Event.{Event}
 use Rattle.hart_moves.specs.Moves.{did_by, freed, settles}
 use Rattle.link_keeper.proofs.Finalised.{carried_rests, quiet_moves}

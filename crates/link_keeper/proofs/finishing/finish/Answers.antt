@@ -1,4 +1,4 @@
-use Rattle.std.proofs.Common.{◌<◌, ◌≤◌, ℕ, ap, sym, subst, ◌∙◌, arith}
+use Rattle.std.proofs.Common.{ap, sym, subst, ◌∙◌, arith}
 use Rattle.history_state.specs.Setting.{Machine}
 use Rattle.word_rule.specs.declared.view.KeeperView.{KeeperView}
 use Rattle.kept_words.specs.Over.{IsOver}

@@ -1,4 +1,3 @@
-use Rattle.std.proofs.Common.{◌≡◌, ℕ, sym, ap, ◌∙◌}
 use Rattle.link_keeper.proofs.Over.{again_asked, again_over, block_asked, block_over, events_given, events_over, grant_given, grant_over}
 use Rattle.link_keeper.proofs.handing.pass.Goals as goal
 

@@ -1,5 +1,4 @@
 use Rattle.std.proofs.Common.{◌+◌, sym, ap, subst, ◌∙◌}
-use Rattle.word_rule.specs.declared.entry.Entry.{Entry}
 use Rattle.link_keeper.specs.Handing.{IsPassed}
 use Rattle.link_keeper.proofs.Handed.{passes_all_of}
 use Rattle.link_keeper.proofs.handing.pass_events.Goals as goal

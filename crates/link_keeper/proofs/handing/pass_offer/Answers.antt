@@ -1,10 +1,8 @@
-use Rattle.std.proofs.Common.{◌≡◌, [], ap, sym, ◌∙◌}
-use Rattle.history_event.specs.declared.event.Event.{Event}
+use Rattle.std.proofs.Common.{◌≡◌, [], ap, ◌∙◌}
 use Rattle.history_state.specs.Accepted.{AcceptsOnly}
 use Rattle.history_state.specs.Setting.{Machine}
 use Rattle.hart_seat.specs.HartParts.Views.{offered_of}
-use Rattle.kept_words.specs.Posting.{NewGrant, event_of}
-use Rattle.link_keeper.specs.Handing.{HasGrantEvent}
+use Rattle.kept_words.specs.Posting.{event_of}
 use Rattle.link_keeper.proofs.Granted.{code_has_grant, code_may_post, code_passed, same_generation}
 use Rattle.link_keeper.proofs.Rest.{next_event}
 use Rattle.link_keeper.proofs.handing.pass_offer.Goals as goal

@@ -1,4 +1,4 @@
-use Rattle.std.proofs.Common.{◌≡◌, ◌≤◌, ℕ, ap, refl, sym, subst, ◌∙◌}
+use Rattle.std.proofs.Common.{◌≤◌, ℕ, ap, sym, subst, ◌∙◌}
 use Rattle.history_calls.specs.declared.link_served.installs.Installs.{Installs}
 use Rattle.history_state.specs.Setting.{Machine}
 use Rattle.word_rule.specs.declared.view.KeeperView.{KeeperView}

@@ -1,4 +1,4 @@
-use Rattle.std.proofs.Common.{◌≡◌, ℕ, Some, length, sym, ap, subst, ◌∙◌}
+use Rattle.std.proofs.Common.{ℕ, Some, length, sym, ap, subst, ◌∙◌}
 use Rattle.history_calls.specs.CallLaws.Coming.{IsOver}
 use Rattle.history_journal.specs.Following.{machine_of}
 use Rattle.history_state.specs.After.{after}
@@ -32,10 +32,15 @@ pub pass-entry-requires-clause-machine : goal.pass-entry-requires-clause-machine
 pass-entry-requires-clause-machine g c = c.attend.ensures.keeps.machine ∙ ap machine_of (sym c.act-acted.ensures.harts)
 
 pub pass-entry-requires-clause-taken : goal.pass-entry-requires-clause-taken
-pass-entry-requires-clause-taken g c = (c.args.hart.now.hart, c.act-acted.new.hart.hart, c.act-acted.new.blocks.spare, is_taken c.harts_fit.ensures.others g.J.Opening.setting g.J.Opening.journal c.attend.new.state c.attend.new.keeper c.args.seat.now c.attend.new.seat c.id_of-id.result
-    c.args.hart.now.hart c.args.blocks.now c.attend.ensures.keeps c.requires.between
-    c.id_of-id.ensures c.requires.asks c.attend.ensures.attends
-    c.act-acted.new.state c.act-acted.new.hart.hart c.act-acted.new.blocks.spare c.act-acted.result.change c.act-acted.result.reply c.act-acted.ensures.acts)
+pass-entry-requires-clause-taken g c = (
+  c.args.hart.now.hart,
+  c.act-acted.new.hart.hart,
+  c.act-acted.new.blocks.spare,
+  is_taken c.harts_fit.ensures.others g.J.Opening.setting g.J.Opening.journal c.attend.new.state c.attend.new.keeper c.args.seat.now c.attend.new.seat c.id_of-id.result
+      c.args.hart.now.hart c.args.blocks.now c.attend.ensures.keeps c.requires.between
+      c.id_of-id.ensures c.requires.asks c.attend.ensures.attends
+      c.act-acted.new.state c.act-acted.new.hart.hart c.act-acted.new.blocks.spare c.act-acted.result.change c.act-acted.result.reply c.act-acted.ensures.acts,
+)
 
 pub keep_answer-requires-clause-room : goal.keep_answer-requires-clause-room
 keep_answer-requires-clause-room g c =
@@ -82,7 +87,7 @@ returns-clause-settled g c =
     let over = c.pass-entry.ensures c.args.hart.now.hart c.act-acted.new.hart.hart c.act-acted.new.blocks.spare turn in
     leaves_open c.args.keeper.now c.attend.new.keeper c.pass-entry.new.keeper c.args.seat.now.number (events_of turn.acts.did) c.attend.ensures.settled c.attend.ensures.attends.found over.passed.events
     (λ e there. turns_own g.J.Opening.setting c.attend.new.keeper.events c.id_of-id.result c.args.hart.now.hart c.act-acted.new.hart.hart turn.acts.did turn.acts.moves e there
-      ∙ ap (λ (n : ℕ). Some n) c.id_of-id.ensures)
+    ∙ ap (λ (n : ℕ). Some n) c.id_of-id.ensures)
     (λ m apart. over.passed.others m (λ same. apart (same ∙ c.attend.ensures.attends.number)))
 
 pub returns-clause-longer : goal.returns-clause-longer
