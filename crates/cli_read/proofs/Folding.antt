@@ -29,5 +29,6 @@ pub whole : (name : Text) (form : Form) → fold with_rule (fold with_rule (with
 whole name forms.Bind = refl
 whole name forms.Turns = refl
 whole name forms.Run = refl
+whole name forms.Check = refl
 whole name forms.Path = refl
 whole name forms.Number = refl

@@ -12,6 +12,7 @@ use Rattle.history_calls.specs.declared.link_served.startup.Setup.{Setup}
 use Rattle.cli_words.specs.declared.switch.Switch.{Switch}
 use Rattle.cli_words.specs.declared.switch.Switch.TheVariants as switches
 use Rattle.cli_words.specs.declared.command.Bind.{Bind}
+use Rattle.cli_words.specs.declared.command.Check.{Check}
 use Rattle.cli_words.specs.declared.command.Command.{Command}
 use Rattle.cli_words.specs.declared.command.Command.TheVariants as commands
 use Rattle.cli_words.specs.declared.command.Run.{Run}
@@ -19,14 +20,14 @@ use Rattle.cli_words.specs.declared.command.Turns.{Turns}
 use Rattle.cli_words.specs.Lemmas.Switches.{one_switch}
 use Rattle.cli_words.specs.Lemmas.Commands.{ReadsBehind, begin_with_word, begins_with_word, word_of}
 use Rattle.cli_words.specs.Options.{Piece, Says, front_of, given, has_value, is_switch, is_of, name_of, option_in, stands, value_in, value_of}
-use Rattle.cli_words.specs.Reads.{Are, IsSetup, Reads, ReadsBind, ReadsNumber, ReadsRun, ReadsTurns, ReadsWord, bind_options, run_options, turns_options}
+use Rattle.cli_words.specs.Reads.{Are, IsSetup, Reads, ReadsBind, ReadsCheck, ReadsNumber, ReadsRun, ReadsTurns, ReadsWord, bind_options, check_options, run_options, turns_options}
 use Rattle.cli_words.specs.Values.{AreFolders, AreHarts, ArePreloads, IsFuel, IsNumber}
 use Rattle.cli_read.specs.declared.clap_words.form.Form.{Form}
 use Rattle.cli_read.specs.declared.clap_words.form.Form.TheVariants as forms
 use Rattle.cli_read.specs.ClapWords.Forms.{id_of, names_of, options_of}
 use Rattle.cli_read.specs.ClapWords.Taken.{AreNamed}
 use Rattle.cli_read.specs.Judged.{GivenValues, HasFolders, HasFuel, HasHarts, HasNumber, HasPreloads, IsOf, IsSomeNumber, parts_in}
-use Rattle.cli_read.specs.Found.{FoundBind, FoundCommand, FoundNumber, FoundRun, FoundSetup, FoundTurns, HasCommand, HasFlag, HasSetup}
+use Rattle.cli_read.specs.Found.{FoundBind, FoundCheck, FoundCommand, FoundNumber, FoundRun, FoundSetup, FoundTurns, HasCommand, HasFlag, HasSetup}
 use Rattle.cli_read.specs.Matched.{IsMatched}
 use Rattle.cli_read.specs.Verbs.{form_of, verb_for, verb_of}
 use Rattle.cli_read.specs.declared.verb.Verb.{Verb}
@@ -126,6 +127,21 @@ run_is_of words run reads = record {
   number = tt;
 }
 
+check_is_of : (words : List Text) (check : Check) → ReadsCheck words check → IsOf forms.Check words
+check_is_of words check reads = record {
+  pieces = reads.pieces;
+  others = check.trace ∷ [];
+  are = reads.are;
+  count = refl;
+  values = record {
+    folders = (check.folders, reads.folders);
+    preloads = no_preloads (given_none switches.Preload check_options words reads.pieces reads.are.says refl);
+    names = no_harts (given_none switches.Harts check_options words reads.pieces reads.are.says refl);
+    turns = no_fuel (given_none switches.Fuel check_options words reads.pieces reads.are.says refl);
+  };
+  number = tt;
+}
+
 no_values : (words : List Text) (pieces : List Piece) → Says [] false words pieces → GivenValues pieces
 no_values words pieces says = record {
   folders = no_folders (given_none switches.Lib [] words pieces says refl);
@@ -211,6 +227,13 @@ some_run words of =
         setup = setup.2;
         trace = refl;
       },
+    )
+
+some_check : (words : List Text) → IsOf forms.Check words → (check : Check) × ReadsCheck words check
+some_check words of =
+    let path = one_word of.others of.count in (
+      record { folders = of.values.folders.0; trace = path.0 },
+      record { pieces = of.pieces; are = subst (Are check_options words of.pieces) path.1 of.are; folders = of.values.folders.1 },
     )
 
 some_path : (words : List Text) → IsOf forms.Path words → (path : Text) × ReadsWord words path
@@ -326,6 +349,7 @@ has_command verbs.Run words found m =
     record { setup = has_setup forms.Run words found m one.0 one.2 refl; trace = has_flag forms.Run words found m switches.Trace refl refl }
 has_command verbs.Assemble words found m = some_word forms.Path words found m (codes "path") refl
 has_command verbs.Dump words found m = some_word forms.Path words found m (codes "path") refl
+has_command verbs.Check words found m = some_word forms.Check words found m (codes "path") refl
 has_command verbs.Generate words found m =
     let one = word_found forms.Number words found m (codes "number") refl in
     subst IsSomeNumber (ap (λ (ws : List Text). slice_get ws 0) one.1 ∙ sym one.2) m.of.number
@@ -358,6 +382,13 @@ run_reads words found m run f = record {
   trace = same_flag run.trace (stands switches.Trace m.of.pieces) (sym f.trace ∙ flag_found forms.Run words found m switches.Trace refl refl);
 }
 
+check_reads : (words : List Text) (found : Found) (m : IsMatched forms.Check words found) (check : Check) → FoundCheck found check → ReadsCheck words check
+check_reads words found m check f = record {
+  pieces = m.of.pieces;
+  are = is_word forms.Check words found m (codes "path") refl check_options refl check.trace f.trace;
+  folders = folders_are (given switches.Lib m.of.pieces) check.folders m.of.values.folders (f.folders ∙ ap (parts_in 58) (value_found forms.Check words found m switches.Lib refl));
+}
+
 number_reads : (words : List Text) (found : Found) (m : IsMatched forms.Number words found) (number : ℕ) → FoundNumber found number → ReadsNumber words number
 number_reads words found m number f = record {
   word = f.word;
@@ -371,6 +402,7 @@ reads_behind words found (commands.Turns turns) m f = turns_reads words found m 
 reads_behind words found (commands.Run run) m f = run_reads words found m run f
 reads_behind words found (commands.Assemble path) m f = record { pieces = m.of.pieces; are = is_word forms.Path words found m (codes "path") refl [] refl path f }
 reads_behind words found (commands.Dump path) m f = record { pieces = m.of.pieces; are = is_word forms.Path words found m (codes "path") refl [] refl path f }
+reads_behind words found (commands.Check check) m f = check_reads words found m check f
 reads_behind words found (commands.Generate number) m f = number_reads words found m number f
 
 command_is_of : (words : List Text) (command : Command) → ReadsBehind words command → IsOf (form_of (verb_for command)) words
@@ -379,6 +411,7 @@ command_is_of words (commands.Turns turns) reads = turns_are_of words turns read
 command_is_of words (commands.Run run) reads = run_is_of words run reads
 command_is_of words (commands.Assemble path) reads = path_is_of words path reads
 command_is_of words (commands.Dump path) reads = path_is_of words path reads
+command_is_of words (commands.Check check) reads = check_is_of words check reads
 command_is_of words (commands.Generate number) reads = number_is_of words number reads
 
 some_command : (verb : Verb) (words : List Text) → IsOf (form_of verb) words → (command : Command) × (verb_for command ≡ verb) × ReadsBehind words command
@@ -387,6 +420,7 @@ some_command verbs.Turns words of = (let some = some_turns words of in (commands
 some_command verbs.Run words of = (let some = some_run words of in (commands.Run some.0, refl, some.1))
 some_command verbs.Assemble words of = (let some = some_path words of in (commands.Assemble some.0, refl, some.1))
 some_command verbs.Dump words of = (let some = some_path words of in (commands.Dump some.0, refl, some.1))
+some_command verbs.Check words of = (let some = some_check words of in (commands.Check some.0, refl, some.1))
 some_command verbs.Generate words of = (let some = some_number words of in (commands.Generate some.0, refl, some.1))
 
 -- ---- a command's own word
@@ -397,6 +431,7 @@ verb_is (commands.Turns turns) = refl
 verb_is (commands.Run run) = refl
 verb_is (commands.Assemble path) = refl
 verb_is (commands.Dump path) = refl
+verb_is (commands.Check check) = refl
 verb_is (commands.Generate number) = refl
 
 abbrev word_for : Verb → Text
@@ -405,6 +440,7 @@ word_for verbs.Turns = codes "turns"
 word_for verbs.Run = codes "run"
 word_for verbs.Assemble = codes "asm"
 word_for verbs.Dump = codes "dump"
+word_for verbs.Check = codes "check"
 word_for verbs.Generate = codes "gen"
 
 one_word_of : (command : Command) → word_for (verb_for command) ≡ word_of command
@@ -413,6 +449,7 @@ one_word_of (commands.Turns turns) = refl
 one_word_of (commands.Run run) = refl
 one_word_of (commands.Assemble path) = refl
 one_word_of (commands.Dump path) = refl
+one_word_of (commands.Check check) = refl
 one_word_of (commands.Generate number) = refl
 
 tested : (word : Text) (own verb : Verb) (rest : Option Verb) → cond (bytes_eq word (word_for own)) (Some own) rest ≡ Some verb → (rest ≡ Some verb → word ≡ word_for verb) → word ≡ word_for verb
@@ -431,8 +468,9 @@ word_is word verb is =
     (λ e. tested word verbs.Run verb _ e
     (λ e. tested word verbs.Assemble verb _ e
     (λ e. tested word verbs.Dump verb _ e
+    (λ e. tested word verbs.Check verb _ e
     (λ e. tested word verbs.Generate verb None e
-    (λ e. let no_verb : None ≡ Some verb = e in absurd cc))))))
+    (λ e. let no_verb : None ≡ Some verb = e in absurd cc)))))))
 
 -- ---- all words
 

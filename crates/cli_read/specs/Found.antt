@@ -6,6 +6,7 @@ use Rattle.clap.specs.declared.parser.matches.Found.{Found}
 use Rattle.history_calls.specs.declared.link_served.startup.Setup.{Setup}
 use Rattle.cli_words.specs.Values.{IsFuel, IsNumber}
 use Rattle.cli_words.specs.declared.command.Bind.{Bind}
+use Rattle.cli_words.specs.declared.command.Check.{Check}
 use Rattle.cli_words.specs.declared.command.Command.{Command}
 use Rattle.cli_words.specs.declared.command.Command.TheVariants as commands
 use Rattle.cli_words.specs.declared.command.Run.{Run}
@@ -44,6 +45,7 @@ HasCommand verbs.Turns found = HasTurns found
 HasCommand verbs.Run found = HasRun found
 HasCommand verbs.Assemble found = IsSome (first_value found (codes "path"))
 HasCommand verbs.Dump found = IsSome (first_value found (codes "path"))
+HasCommand verbs.Check found = IsSome (first_value found (codes "path"))
 HasCommand verbs.Generate found = IsSomeNumber (first_value found (codes "number"))
 
 -- ---- commands that have them
@@ -70,6 +72,10 @@ pub record FoundRun (found : Found) (run : Run) : Type 0 where
   pub setup : FoundSetup found run.setup
   pub trace : one_text found (codes "trace") ≡ Some (bool_text run.trace)
 
+pub record FoundCheck (found : Found) (check : Check) : Type 0 where
+  pub folders : check.folders ≡ parts_in 58 (first_value found (codes "lib"))
+  pub trace : first_value found (codes "path") ≡ Some check.trace
+
 pub record FoundNumber (found : Found) (number : ℕ) : Type 0 where
   pub word : Text
   pub is : first_value found (codes "number") ≡ Some word
@@ -81,4 +87,5 @@ FoundCommand found (commands.Turns turns) = FoundTurns found turns
 FoundCommand found (commands.Run run) = FoundRun found run
 FoundCommand found (commands.Assemble path) = first_value found (codes "path") ≡ Some path
 FoundCommand found (commands.Dump path) = first_value found (codes "path") ≡ Some path
+FoundCommand found (commands.Check check) = FoundCheck found check
 FoundCommand found (commands.Generate number) = FoundNumber found number

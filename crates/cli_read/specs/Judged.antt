@@ -56,6 +56,7 @@ abbrev pub HasNumber : Form → Option Text → Type 0
 HasNumber forms.Bind first = ⊤
 HasNumber forms.Turns first = ⊤
 HasNumber forms.Run first = ⊤
+HasNumber forms.Check first = ⊤
 HasNumber forms.Path first = ⊤
 HasNumber forms.Number first = IsSomeNumber first
 

@@ -15,6 +15,7 @@ verb_of word =
     else if bytes_eq word (codes "run") then Some verbs.Run
     else if bytes_eq word (codes "asm") then Some verbs.Assemble
     else if bytes_eq word (codes "dump") then Some verbs.Dump
+    else if bytes_eq word (codes "check") then Some verbs.Check
     else if bytes_eq word (codes "gen") then Some verbs.Generate
     else None
 
@@ -24,6 +25,7 @@ form_of verbs.Turns = forms.Turns
 form_of verbs.Run = forms.Run
 form_of verbs.Assemble = forms.Path
 form_of verbs.Dump = forms.Path
+form_of verbs.Check = forms.Check
 form_of verbs.Generate = forms.Number
 
 abbrev pub verb_for : Command → Verb
@@ -32,4 +34,5 @@ verb_for (commands.Turns turns) = verbs.Turns
 verb_for (commands.Run run) = verbs.Run
 verb_for (commands.Assemble path) = verbs.Assemble
 verb_for (commands.Dump path) = verbs.Dump
+verb_for (commands.Check check) = verbs.Check
 verb_for (commands.Generate number) = verbs.Generate

@@ -32,6 +32,7 @@ pub(crate) fn options_of(form: Form) -> &'static [Switch]
             Switch::Now,
             Switch::Trace,
         ],
+        Form::Check => &[Switch::Lib],
         Form::Path | Form::Number => &[],
     }
 }
@@ -43,7 +44,7 @@ pub(crate) fn names_of(form: Form) -> &'static [&'static str]
     match form {
         Form::Bind | Form::Run => &["program"],
         Form::Turns => &["schedule", "program"],
-        Form::Path => &["path"],
+        Form::Check | Form::Path => &["path"],
         Form::Number => &["number"],
     }
 }

@@ -3,14 +3,14 @@
 ghost use Rattle.std.specs.Prelude.{◌≡◌, IfOk, IsSome, Some, codes};
 ghost use Rattle.clap.specs.Matches.{first_value, found_of};
 ghost use Rattle.cli_read.specs.Judged.{IsSomeNumber};
-ghost use Rattle.cli_read.specs.Found.{FoundBind, FoundCommand, FoundNumber, FoundRun, FoundSetup, FoundTurns};
+ghost use Rattle.cli_read.specs.Found.{FoundBind, FoundCheck, FoundCommand, FoundNumber, FoundRun, FoundSetup, FoundTurns};
 ghost use Rattle.cli_read.specs.Found.{HasBind, HasCommand, HasRun, HasSetup, HasTurns};
 ghost use Rattle.cli_read.specs.Verbs.{verb_for};
 
 use crate::values::{fuel_of, number_of, parts_in};
 use crate::verb::Verb;
 use clap::ArgMatches;
-use cli_words::{Bind, Command, Run, Turns};
+use cli_words::{Bind, Check, Command, Run, Turns};
 use history_calls::Setup;
 use ld_base::Name;
 use std::alloc::{AllocError, Global};
@@ -76,6 +76,16 @@ fn run_of(alloc: Global, matches: &ArgMatches<'_>) -> Result<Run, AllocError>
     })
 }
 
+fn check_of(alloc: Global, matches: &ArgMatches<'_>) -> Result<Check, AllocError>
+    requires { IsSome (first_value (found_of matches.now) (codes "path")) }
+    ensures { IfOk result (FoundCheck (found_of matches.now)) }
+{
+    Ok(Check {
+        folders: parts_in(alloc, matches.get_str("lib"), ':')?,
+        trace: word_of(alloc, matches, "path")?,
+    })
+}
+
 fn generated_by(matches: &ArgMatches<'_>) -> u32
     requires { IsSomeNumber (first_value (found_of matches.now) (codes "number")) }
     ensures { FoundNumber (found_of matches.now) result }
@@ -105,6 +115,7 @@ pub(crate) fn command_of(
         Verb::Run => Command::Run(run_of(alloc, matches)?),
         Verb::Assemble => Command::Assemble(word_of(alloc, matches, "path")?),
         Verb::Dump => Command::Dump(word_of(alloc, matches, "path")?),
+        Verb::Check => Command::Check(check_of(alloc, matches)?),
         Verb::Generate => Command::Generate(generated_by(matches)),
     })
 }

@@ -13,6 +13,7 @@ pub(crate) enum Verb {
     Run,
     Assemble,
     Dump,
+    Check,
     Generate,
 }
 
@@ -26,6 +27,7 @@ pub(crate) fn verb_of(word: &str) -> Option<Verb>
         "run" => Some(Verb::Run),
         "asm" => Some(Verb::Assemble),
         "dump" => Some(Verb::Dump),
+        "check" => Some(Verb::Check),
         "gen" => Some(Verb::Generate),
         _ => None,
     }
@@ -41,6 +43,7 @@ impl Verb {
             Verb::Turns => Form::Turns,
             Verb::Run => Form::Run,
             Verb::Assemble | Verb::Dump => Form::Path,
+            Verb::Check => Form::Check,
             Verb::Generate => Form::Number,
         }
     }

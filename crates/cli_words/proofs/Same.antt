@@ -7,13 +7,14 @@ use Rattle.history_calls.specs.declared.link_served.startup.Setup.{Setup}
 use Rattle.cli_words.specs.declared.switch.Switch.{Switch}
 use Rattle.cli_words.specs.declared.switch.Switch.TheVariants as switches
 use Rattle.cli_words.specs.declared.command.Bind.{Bind}
+use Rattle.cli_words.specs.declared.command.Check.{Check}
 use Rattle.cli_words.specs.declared.command.Command.{Command}
 use Rattle.cli_words.specs.declared.command.Command.TheVariants as commands
 use Rattle.cli_words.specs.declared.command.Run.{Run}
 use Rattle.cli_words.specs.declared.command.Turns.{Turns}
 use Rattle.cli_words.specs.Lemmas.Commands.{ReadsBehind, begins_with_word, word_of}
 use Rattle.cli_words.specs.Options.{Piece, given, stands, words_of}
-use Rattle.cli_words.specs.Reads.{Are, IsSetup, OneCommand, ReadsBind, ReadsNumber, ReadsRun, ReadsTurns, ReadsWord, bind_options, run_options, turns_options}
+use Rattle.cli_words.specs.Reads.{Are, IsSetup, OneCommand, ReadsBind, ReadsCheck, ReadsNumber, ReadsRun, ReadsTurns, ReadsWord, bind_options, check_options, run_options, turns_options}
 use Rattle.cli_words.specs.Values.{AreFolders, ArePreloads, Gives, IsFuel, IsNumber}
 use Rattle.cli_words.proofs.Pieces.{one_saying}
 
@@ -101,6 +102,13 @@ same_run words r r' x y =
     let setups = same_setup x.pieces r.setup r'.setup programs x.setup (subst (λ (p : List Piece). IsSetup p r'.setup.program r'.setup) ps y.setup) in
     ap₂ (λ (s : Setup) (t : Bool). record { setup = s; trace = t }) setups (x.trace ∙ sym (y.trace ∙ ap (λ (p : List Piece). stands switches.Trace p) ps))
 
+same_check : (words : List Text) (k k' : Check) → ReadsCheck words k → ReadsCheck words k' → k ≡ k'
+same_check words k k' x y =
+    let ps = same_pieces check_options words x.pieces y.pieces (k.trace ∷ []) (k'.trace ∷ []) x.are y.are in
+    let folders = same_parts 58 16 1000 (given switches.Lib x.pieces) k.folders k'.folders x.folders (subst (λ (p : List Piece). AreFolders (given switches.Lib p) k'.folders) ps y.folders) in
+    let traces = head_of k.trace k'.trace [] [] (same_left check_options words x.pieces y.pieces (k.trace ∷ []) (k'.trace ∷ []) x.are y.are) in
+    ap₂ (λ (f : List Text) (t : Text). record { folders = f; trace = t }) folders traces
+
 same_word : (words : List Text) (w w' : Text) → ReadsWord words w → ReadsWord words w' → w ≡ w'
 same_word words w w' x y = head_of w w' [] [] (same_left [] words x.pieces y.pieces (w ∷ []) (w' ∷ []) x.are y.are)
 
@@ -156,6 +164,19 @@ one_behind words (commands.Generate n) (commands.Turns t') same x y = differ (co
 one_behind words (commands.Generate n) (commands.Run r') same x y = differ (codes "gen") (codes "run") refl same
 one_behind words (commands.Generate n) (commands.Assemble p') same x y = differ (codes "gen") (codes "asm") refl same
 one_behind words (commands.Generate n) (commands.Dump p') same x y = differ (codes "gen") (codes "dump") refl same
+one_behind words (commands.Check k) (commands.Check k') same x y = ap commands.Check (same_check words k k' x y)
+one_behind words (commands.Bind b) (commands.Check k') same x y = differ (codes "bind") (codes "check") refl same
+one_behind words (commands.Check k) (commands.Bind b') same x y = differ (codes "check") (codes "bind") refl same
+one_behind words (commands.Turns t) (commands.Check k') same x y = differ (codes "turns") (codes "check") refl same
+one_behind words (commands.Check k) (commands.Turns t') same x y = differ (codes "check") (codes "turns") refl same
+one_behind words (commands.Run r) (commands.Check k') same x y = differ (codes "run") (codes "check") refl same
+one_behind words (commands.Check k) (commands.Run r') same x y = differ (codes "check") (codes "run") refl same
+one_behind words (commands.Assemble p) (commands.Check k') same x y = differ (codes "asm") (codes "check") refl same
+one_behind words (commands.Check k) (commands.Assemble p') same x y = differ (codes "check") (codes "asm") refl same
+one_behind words (commands.Dump p) (commands.Check k') same x y = differ (codes "dump") (codes "check") refl same
+one_behind words (commands.Check k) (commands.Dump p') same x y = differ (codes "check") (codes "dump") refl same
+one_behind words (commands.Generate n) (commands.Check k') same x y = differ (codes "gen") (codes "check") refl same
+one_behind words (commands.Check k) (commands.Generate n') same x y = differ (codes "check") (codes "gen") refl same
 
 pub one_command : OneCommand
 one_command words c d x y =

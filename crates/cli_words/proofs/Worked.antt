@@ -99,6 +99,7 @@ none_help_word command reads = (let b = begins_with_word help_word command reads
     other (commands.Run run) rest e = differ (codes "run") rest e refl
     other (commands.Assemble path) rest e = differ (codes "asm") rest e refl
     other (commands.Dump path) rest e = differ (codes "dump") rest e refl
+    other (commands.Check check) rest e = differ (codes "check") rest e refl
     other (commands.Generate number) rest e = differ (codes "gen") rest e refl
 
 -- an option that isn't there, a value with a dash

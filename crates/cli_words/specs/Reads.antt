@@ -3,6 +3,7 @@ use Rattle.std.specs.Prelude.{◌≡◌, ℕ, ◌-◌, ◌^◌, false, List, [],
 use Rattle.cli_words.specs.declared.switch.Switch.{Switch}
 use Rattle.cli_words.specs.declared.switch.Switch.TheVariants as switches
 use Rattle.cli_words.specs.declared.command.Bind.{Bind}
+use Rattle.cli_words.specs.declared.command.Check.{Check}
 use Rattle.cli_words.specs.declared.command.Command.{Command}
 use Rattle.cli_words.specs.declared.command.Command.TheVariants as commands
 use Rattle.cli_words.specs.declared.command.Run.{Run}
@@ -21,6 +22,9 @@ turns_options = switches.Lib ∷ switches.Preload ∷ switches.Harts ∷ switche
 
 abbrev pub run_options : List Switch
 run_options = switches.Lib ∷ switches.Preload ∷ switches.Harts ∷ switches.Fuel ∷ switches.Now ∷ switches.Trace ∷ []
+
+abbrev pub check_options : List Switch
+check_options = switches.Lib ∷ []
 
 -- the words say these pieces, each option once, and these other words
 pub record Are (known : List Switch) (words : List (List ℕ)) (pieces : List Piece) (others : List (List ℕ)) : Type 0 where
@@ -57,6 +61,11 @@ pub record ReadsRun (words : List (List ℕ)) (run : Run) : Type 0 where
   pub setup : IsSetup pieces run.setup.program run.setup
   pub trace : run.trace ≡ stands switches.Trace pieces
 
+pub record ReadsCheck (words : List (List ℕ)) (check : Check) : Type 0 where
+  pub pieces : List Piece
+  pub are : Are check_options words pieces (check.trace ∷ [])
+  pub folders : AreFolders (given switches.Lib pieces) check.folders
+
 -- a command without options has one word
 pub record ReadsWord (words : List (List ℕ)) (word : List ℕ) : Type 0 where
   pub pieces : List Piece
@@ -75,6 +84,7 @@ pub data Reads : List (List ℕ) → Command → Type 0 where
   run : (words : List (List ℕ)) (run : Run) → ReadsRun words run → Reads (codes "run" ∷ words) (commands.Run run)
   asm : (words : List (List ℕ)) (path : List ℕ) → ReadsWord words path → Reads (codes "asm" ∷ words) (commands.Assemble path)
   dump : (words : List (List ℕ)) (path : List ℕ) → ReadsWord words path → Reads (codes "dump" ∷ words) (commands.Dump path)
+  check : (words : List (List ℕ)) (check : Check) → ReadsCheck words check → Reads (codes "check" ∷ words) (commands.Check check)
   gen : (words : List (List ℕ)) (number : ℕ) → ReadsNumber words number → Reads (codes "gen" ∷ words) (commands.Generate number)
 
 -- words are one command

@@ -32,6 +32,15 @@ pub struct Run {
     pub trace: bool,
 }
 
+/// What is asked of `check`.
+#[derive(Drop)]
+pub struct Check {
+    /// Where the run of the trace looks for libraries, in order.
+    pub folders: Names,
+    /// The trace's path.
+    pub trace: Name,
+}
+
 /// What is to be done.
 #[derive(Drop)]
 pub enum Command {
@@ -45,6 +54,8 @@ pub enum Command {
     Assemble(Name),
     /// What the object at a path holds.
     Dump(Name),
+    /// Whether the trace at a path is legal.
+    Check(Check),
     /// A set of libraries made from a number, and its run.
     Generate(u32),
 }

@@ -11,6 +11,6 @@ mod command;
 mod law;
 mod switch;
 
-pub use command::{Bind, Command, Run, Turns};
+pub use command::{Bind, Check, Command, Run, Turns};
 pub use law::{words_are_commands, words_are_none, words_are_one_command, words_say_once};
 pub use switch::Switch;

@@ -68,6 +68,14 @@ run_options name switches.Fuel is = (refl, refl)
 run_options name switches.Now is = (refl, refl)
 run_options name switches.Trace is = (refl, refl)
 
+check_options : (name : Text) → FindsOptions (rules_of forms.Check name) (options_of forms.Check)
+check_options name switches.Lib is = (refl, refl)
+check_options name switches.Preload is = none_some switches.Preload is
+check_options name switches.Harts is = none_some switches.Harts is
+check_options name switches.Fuel is = none_some switches.Fuel is
+check_options name switches.Now is = none_some switches.Now is
+check_options name switches.Trace is = none_some switches.Trace is
+
 -- ---- names
 
 -- a name is none of the options'
@@ -138,6 +146,14 @@ run_quiet name switches.Fuel valued = refl
 run_quiet name switches.Now valued = no_value valued
 run_quiet name switches.Trace valued = no_value valued
 
+check_quiet : (name : Text) (c : Switch) → has_value c ≡ true → list_all (is_quiet (id_of c)) (rules_of forms.Check name) ≡ true
+check_quiet name switches.Lib valued = refl
+check_quiet name switches.Preload valued = refl
+check_quiet name switches.Harts valued = refl
+check_quiet name switches.Fuel valued = refl
+check_quiet name switches.Now valued = no_value valued
+check_quiet name switches.Trace valued = no_value valued
+
 path_quiet : (name : Text) (c : Switch) → has_value c ≡ true → list_all (is_quiet (id_of c)) (rules_of forms.Path name) ≡ true
 path_quiet name switches.Lib valued = refl
 path_quiet name switches.Preload valued = refl
@@ -160,5 +176,6 @@ pub fits : (form : Form) (name : Text) → Fits form name
 fits forms.Bind name = record { simple = refl; alone = refl; options = bind_options name; words = (refl, refl, refl, tt); apart = alone (codes "program") program_apart; defaults = refl; valid = λ rs. refl; quiet = bind_quiet name; quiet_words = (refl, tt) }
 fits forms.Turns name = record { simple = refl; alone = refl; options = turns_options name; words = (refl, refl, refl, (refl, refl, refl, tt)); apart = both; defaults = refl; valid = λ rs. refl; quiet = turns_quiet name; quiet_words = (refl, (refl, tt)) }
 fits forms.Run name = record { simple = refl; alone = refl; options = run_options name; words = (refl, refl, refl, tt); apart = alone (codes "program") program_apart; defaults = refl; valid = λ rs. refl; quiet = run_quiet name; quiet_words = (refl, tt) }
+fits forms.Check name = record { simple = refl; alone = refl; options = check_options name; words = (refl, refl, refl, tt); apart = alone (codes "path") path_apart; defaults = refl; valid = λ rs. refl; quiet = check_quiet name; quiet_words = (refl, tt) }
 fits forms.Path name = record { simple = refl; alone = refl; options = λ x is. none_some x is; words = (refl, refl, refl, tt); apart = alone (codes "path") path_apart; defaults = refl; valid = λ rs. refl; quiet = path_quiet name; quiet_words = (refl, tt) }
 fits forms.Number name = record { simple = refl; alone = refl; options = λ x is. none_some x is; words = (refl, refl, refl, tt); apart = alone (codes "number") number_apart; defaults = refl; valid = λ rs. refl; quiet = number_quiet name; quiet_words = (refl, tt) }

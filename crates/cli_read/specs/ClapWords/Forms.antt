@@ -7,7 +7,7 @@ use Rattle.clap.specs.declared.builder.action.ArgAction.TheVariants.{Set, SetTru
 use Rattle.cli_words.specs.declared.switch.Switch.{Switch}
 use Rattle.cli_words.specs.declared.switch.Switch.TheVariants as switches
 use Rattle.cli_words.specs.Options.{has_value}
-use Rattle.cli_words.specs.Reads.{bind_options, run_options, turns_options}
+use Rattle.cli_words.specs.Reads.{bind_options, check_options, run_options, turns_options}
 use Rattle.cli_read.specs.declared.clap_words.form.Form.{Form}
 use Rattle.cli_read.specs.declared.clap_words.form.Form.TheVariants as forms
 
@@ -17,6 +17,7 @@ abbrev pub options_of : Form → List Switch
 options_of forms.Bind = bind_options
 options_of forms.Turns = turns_options
 options_of forms.Run = run_options
+options_of forms.Check = check_options
 options_of forms.Path = []
 options_of forms.Number = []
 
@@ -25,6 +26,7 @@ abbrev pub names_of : Form → List Text
 names_of forms.Bind = codes "program" ∷ []
 names_of forms.Turns = codes "schedule" ∷ codes "program" ∷ []
 names_of forms.Run = codes "program" ∷ []
+names_of forms.Check = codes "path" ∷ []
 names_of forms.Path = codes "path" ∷ []
 names_of forms.Number = codes "number" ∷ []
 

@@ -9,6 +9,8 @@ pub enum Form {
     Turns,
     /// A program, and how it runs.
     Run,
+    /// A path, and where libraries are looked for.
+    Check,
     /// A path alone.
     Path,
     /// A number alone.
