@@ -36,6 +36,7 @@ told (commands.Assemble path) = inl tt
 told (commands.Dump path) = inl tt
 told (commands.Turns turns) = scheduled turns (told_schedule (harts_of turns.setup) turns.schedule)
 told (commands.Run run) = inr (λ no. no)
+told (commands.Check check) = inl tt
 told (commands.Generate number) = inl tt
 
 -- ---- words that are a command

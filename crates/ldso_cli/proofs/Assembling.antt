@@ -51,6 +51,7 @@ source_prints path bytes text files causes.Done at comes = record { source = byt
 source_prints path bytes text files (causes.AsmRefused line why) at comes = record { source = bytes; is = at; comes = comes }
 source_prints path bytes text files (causes.Refused fault) at comes = absurd comes
 source_prints path bytes text files (causes.Ran run_end) at comes = absurd comes
+source_prints path bytes text files (causes.TraceRefused line why) at comes = absurd comes
 source_prints path bytes text files causes.Usage at comes = absurd comes
 source_prints path bytes text files causes.WriteFault at comes = absurd comes
 source_prints path bytes text files causes.Memory at comes = absurd comes
@@ -124,16 +125,19 @@ one_comes law bytes text text' (causes.AsmRefused line why) (causes.AsmRefused l
     ap (λ (n : ℕ). causes.AsmRefused n why) e.0 ∙ ap (causes.AsmRefused line') e.1
 one_comes law bytes text text' (causes.Refused fault) b p q = absurd p
 one_comes law bytes text text' (causes.Ran run_end) b p q = absurd p
+one_comes law bytes text text' (causes.TraceRefused line why) b p q = absurd p
 one_comes law bytes text text' causes.Usage b p q = absurd p
 one_comes law bytes text text' causes.WriteFault b p q = absurd p
 one_comes law bytes text text' causes.Memory b p q = absurd p
 one_comes law bytes text text' causes.Done (causes.Refused fault) p q = absurd q
 one_comes law bytes text text' causes.Done (causes.Ran run_end) p q = absurd q
+one_comes law bytes text text' causes.Done (causes.TraceRefused line why) p q = absurd q
 one_comes law bytes text text' causes.Done causes.Usage p q = absurd q
 one_comes law bytes text text' causes.Done causes.WriteFault p q = absurd q
 one_comes law bytes text text' causes.Done causes.Memory p q = absurd q
 one_comes law bytes text text' (causes.AsmRefused line why) (causes.Refused fault) p q = absurd q
 one_comes law bytes text text' (causes.AsmRefused line why) (causes.Ran run_end) p q = absurd q
+one_comes law bytes text text' (causes.AsmRefused line why) (causes.TraceRefused at reason) p q = absurd q
 one_comes law bytes text text' (causes.AsmRefused line why) causes.Usage p q = absurd q
 one_comes law bytes text text' (causes.AsmRefused line why) causes.WriteFault p q = absurd q
 one_comes law bytes text text' (causes.AsmRefused line why) causes.Memory p q = absurd q
@@ -169,6 +173,7 @@ asm_text law path files causes.Done a b p q =
 asm_text law path files (causes.AsmRefused line why) a b p q = p.comes.1 ∙ sym q.comes.1
 asm_text law path files (causes.Refused fault) a b p q = p ∙ sym q
 asm_text law path files (causes.Ran run_end) a b p q = absurd p
+asm_text law path files (causes.TraceRefused line why) a b p q = absurd p
 asm_text law path files causes.Usage a b p q = absurd p
 asm_text law path files causes.WriteFault a b p q = absurd p
 asm_text law path files causes.Memory a b p q = absurd p

@@ -13,12 +13,14 @@ use Rattle.trace_text.specs.declared.run_texts.run_end.RunEnd.TheVariants.{Exite
 use Rattle.scope_rule.specs.Finding.{Reading, here, unaccepted, absent, failed}
 use Rattle.cli_text.specs.Refusal.{first_refusal}
 use Rattle.cli_words.specs.declared.command.Bind.{Bind}
+use Rattle.cli_words.specs.declared.command.Check.{Check}
 use Rattle.cli_words.specs.declared.command.Command.{Command}
 use Rattle.cli_words.specs.declared.command.Command.TheVariants as commands
 use Rattle.ldso_cli.proofs.Told.{never_rises}
 use Rattle.ldso_cli.specs.Asm.{SourceRead, SourceComes, ReadsSource, GivesCause}
 use Rattle.ldso_cli.specs.Bind.{BindComes, cause_of, namespace_of}
 use Rattle.cli_words.specs.declared.command.Turns.{Turns}
+use Rattle.ldso_cli.specs.Check.{CheckGives, IsUnread, ReadsTrace, TraceComes}
 use Rattle.ldso_cli.specs.Command.{WordsAnswer, CommandAnswers, Misses}
 use Rattle.ldso_cli.specs.Dump.{DumpComes, ReadsAs, dump_cause}
 use Rattle.ldso_cli.specs.End.{bare}
@@ -43,6 +45,7 @@ pub record IsOwn (command : Command) (before after : LibraryAt) (cause : Cause) 
 abbrev IsQuiet : Cause → Type 0
 IsQuiet causes.Done = Unit {0}
 IsQuiet (causes.AsmRefused line cause) = Unit {0}
+IsQuiet (causes.TraceRefused line cause) = Unit {0}
 IsQuiet (causes.Refused (dl.NotAccepted path broken)) = Unit {0}
 IsQuiet _ = ⊥
 
@@ -50,6 +53,8 @@ quiet_own : (command : Command) (before after : LibraryAt) (cause : Cause) → I
 quiet_own command before after causes.Done quiet =
     record { no_usage = λ e. cc e; no_write = λ e. cc e; read_fault = λ path e. absurd (cc e); missing = λ name e. absurd (cc e) }
 quiet_own command before after (causes.AsmRefused line cause) quiet =
+    record { no_usage = λ e. cc e; no_write = λ e. cc e; read_fault = λ path e. absurd (cc e); missing = λ name e. absurd (cc e) }
+quiet_own command before after (causes.TraceRefused line cause) quiet =
     record { no_usage = λ e. cc e; no_write = λ e. cc e; read_fault = λ path e. absurd (cc e); missing = λ name e. absurd (cc e) }
 quiet_own command before after (causes.Refused (dl.NotAccepted path broken)) quiet =
     record { no_usage = λ e. cc e; no_write = λ e. cc e; read_fault = λ at e. absurd (cc e); missing = λ name e. absurd (cc e) }
@@ -97,6 +102,7 @@ source_own path bytes text before after causes.Done comes = quiet_own (commands.
 source_own path bytes text before after (causes.AsmRefused line why) comes = quiet_own (commands.Assemble path) before after (causes.AsmRefused line why) tt
 source_own path bytes text before after (causes.Refused fault) comes = absurd comes
 source_own path bytes text before after (causes.Ran run_end) comes = absurd comes
+source_own path bytes text before after (causes.TraceRefused line why) comes = absurd comes
 source_own path bytes text before after causes.Usage comes = absurd comes
 source_own path bytes text before after causes.WriteFault comes = absurd comes
 source_own path bytes text before after causes.Memory comes = absurd comes
@@ -121,6 +127,43 @@ dump_comes : (path : List ℕ) (before after : LibraryAt) (files : List File) (c
 dump_comes path before after files cause comes =
     let P : Cause → Type 0 = λ c. IsOwn (commands.Dump path) before after c in
     subst P (sym comes.cause_is) (dump_own path before after (file_at files path) comes.reading comes.gives)
+
+-- ---- check
+
+of_unread : (check : Check) (before after : LibraryAt) (fault : DlFault) (cause : Cause) (text : List ℕ) → IsUnread fault cause text → ((path : List ℕ) → fault ≡ dl.ReadFault path → Rises before.faults after.faults)
+    → ((name : List ℕ) → fault ≡ dl.MissingLibrary name → (name ≡ check.trace) × Rises before.misses after.misses) → IsOwn (commands.Check check) before after cause
+of_unread check before after fault cause text unread counted missed =
+    let P : Cause → Type 0 = λ c. IsOwn (commands.Check check) before after c in
+    subst P (sym unread.cause_is) (record {
+      no_usage = λ e. cc e;
+      no_write = λ e. cc e;
+      read_fault = λ path e. counted path (same_refusal fault (dl.ReadFault path) e);
+      missing = λ name e. missed name (same_refusal fault (dl.MissingLibrary name) e);
+    })
+  where
+    same_refusal : (f g : DlFault) → causes.Refused f ≡ causes.Refused g → f ≡ g
+    same_refusal f g e = cc
+
+trace_own : (check : Check) (before after : LibraryAt) (trace : List ℕ) (cause : Cause) (text : List ℕ) → TraceComes check.folders before after trace cause text → IsOwn (commands.Check check) before after cause
+trace_own check before after trace causes.Done text comes = quiet_own (commands.Check check) before after causes.Done tt
+trace_own check before after trace (causes.TraceRefused line why) text comes = quiet_own (commands.Check check) before after (causes.TraceRefused line why) tt
+trace_own check before after trace (causes.Refused fault) text comes =
+    of_unread check before after fault (causes.Refused fault) text (record { cause_is = refl; text_is = comes.text_is }) (λ path e. comes.counted)
+    (λ name e. (let d : dl.ReadFault comes.path ≡ dl.MissingLibrary name = sym comes.fault_is ∙ e in absurd cc))
+trace_own check before after trace (causes.Ran run_end) text comes = absurd comes
+trace_own check before after trace (causes.AsmRefused line why) text comes = absurd comes
+trace_own check before after trace causes.Usage text comes = absurd comes
+trace_own check before after trace causes.WriteFault text comes = absurd comes
+trace_own check before after trace causes.Memory text comes = absurd comes
+
+check_own : (check : Check) (before after : LibraryAt) (cause : Cause) (text : List ℕ) (read : SourceRead) → ReadsTrace before after check.trace read → CheckGives check before after read cause text
+    → IsOwn (commands.Check check) before after cause
+check_own check before after cause text (SourceRead.source trace) reads gives = trace_own check before after trace cause text gives
+check_own check before after cause text SourceRead.missing reads gives = of_unread check before after (dl.MissingLibrary check.trace) cause text gives
+    (λ path e. (let d : dl.MissingLibrary check.trace ≡ dl.ReadFault path = e in absurd cc))
+    (λ name e. ((let d : dl.MissingLibrary check.trace ≡ dl.MissingLibrary name = e in cc), reads.holds.1))
+check_own check before after cause text SourceRead.failed reads gives = of_unread check before after (dl.ReadFault check.trace) cause text gives (λ path e. reads.holds)
+    (λ name e. (let d : dl.ReadFault check.trace ≡ dl.MissingLibrary name = e in absurd cc))
 
 -- ---- turns and gen, by how their runs ended
 
@@ -177,6 +220,7 @@ own_end (commands.Assemble path) before after end text over =
     at_end (commands.Assemble path) before after comes.cause end comes.end_is (asm_own path before after (file_at over.files path) comes.by.read comes.cause comes.by.reads comes.by.gives)
 own_end (commands.Turns turns) before after end text comes = turns_own turns before after end text comes
 own_end (commands.Run run) before after end text none = absurd none
+own_end (commands.Check check) before after end text comes = at_end (commands.Check check) before after comes.cause end comes.end_is (check_own check before after comes.cause text comes.read comes.reads comes.gives)
 own_end (commands.Generate number) before after end text comes = gen_own number before after end text comes
 
 -- ---- what is written

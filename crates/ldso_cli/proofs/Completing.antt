@@ -8,12 +8,10 @@ use Rattle.cli_words.specs.declared.command.Command.TheVariants as commands
 use Rattle.history_calls.specs.Laws.{StartsOrFails}
 use Rattle.history_calls.specs.declared.link_served.startup.Setup.{Setup}
 use Rattle.ld_base.specs.declared.fault.DlFault.{DlFault}
-use Rattle.ld_base.specs.declared.fault.DlFault.TheVariants as dl
 use Rattle.ld_base.specs.declared.linking.File.{File}
 use Rattle.ld_base.specs.declared.linking.Loaded.{Loaded}
 use Rattle.library_source.specs.Count.{Rises}
 use Rattle.library_source.specs.Files.{Over, file_at}
-use Rattle.lib_gen.specs.Set.{AreSetOf}
 use Rattle.link_open_plan.specs.Startup.{run_of}
 use Rattle.link_startup.specs.Startup.{CanStart}
 use Rattle.scope_rule.specs.Finding.{Reading, absent, failed, here, unaccepted}
@@ -22,24 +20,25 @@ use Rattle.scope_rule.specs.Needed.{version_fault}
 use Rattle.load_walk.specs.Plan.{Lacks}
 use Rattle.trace_text.specs.declared.run_texts.record.RunRecord.{RunRecord}
 use Rattle.trace_text.specs.declared.run_texts.run_end.RunEnd.{RunEnd}
+use Rattle.trace_check.specs.Laws.{OneVerdict}
 use Rattle.world_turns.specs.declared.schedules.schedule.TurnItem.{TurnItem}
 use Rattle.ldso_cli.proofs.Assembling.{NeverBoth}
 use Rattle.ldso_cli.proofs.Decided.{NotBoth, settled}
 use Rattle.ldso_cli.proofs.Kept.{has_run}
 use Rattle.ldso_cli.proofs.Same.{OneWalk, one_list}
 use Rattle.ldso_cli.proofs.Told.{never_rises}
+use Rattle.ldso_cli.proofs.Traces.{check_done}
 use Rattle.ldso_cli.proofs.Whole.{OneSet}
 use Rattle.ldso_cli.specs.Asm.{AsmComes, GivesCause, ReadsSource, SourceComes, SourceRead, failed as unread, missing, source}
 use Rattle.ldso_cli.specs.Bind.{BindComes, IsLoaded, IsNotLoaded, cause_of, namespace_of, program_load}
 use Rattle.ldso_cli.specs.Command.{CommandAnswers, IsAnswer, OverFiles, ReadsWell}
 use Rattle.ldso_cli.specs.Complete.{AreFilesOf, CanBeAssembled, CanBeBound, CanBeDumped, FilesSuffice, IsDone, RanToItsEnd}
-use Rattle.ldso_cli.specs.Dump.{DumpComes, ReadsAs, dump_cause, program_read}
+use Rattle.ldso_cli.specs.Dump.{DumpComes, ReadsAs, dump_cause}
 use Rattle.ldso_cli.specs.End.{kept_end}
-use Rattle.ldso_cli.specs.Generate.{GenComes, set_at, set_cause, set_setup}
+use Rattle.ldso_cli.specs.Generate.{set_at, set_cause, set_setup}
 use Rattle.ldso_cli.specs.Laws.{AnswersComplete}
 use Rattle.ldso_cli.specs.Outside.{LibraryAt}
-use Rattle.ldso_cli.specs.Played.{IsPlayed, IsRun, run_cause}
-use Rattle.ldso_cli.specs.Turns.{TurnsComes}
+use Rattle.ldso_cli.specs.Played.{IsPlayed, run_cause}
 use Rattle.ldso_cli.specs.declared.outcome.Cause.{Cause}
 use Rattle.ldso_cli.specs.declared.outcome.Cause.TheVariants as causes
 use Rattle.ldso_cli.specs.declared.outcome.End.{End}
@@ -51,6 +50,7 @@ pub record Laws : Type 0 where
   pub never_both : NeverBoth
   pub starts : StartsOrFails
   pub one_set : OneSet
+  pub one_verdict : OneVerdict
 
 module _ (laws : Laws) where
   -- ---- bind
@@ -95,6 +95,7 @@ module _ (laws : Laws) where
   source_done bytes object text (causes.AsmRefused line why) denotes comes = absurd (laws.never_both bytes object line why denotes comes.0)
   source_done bytes object text (causes.Refused fault) denotes comes = absurd comes
   source_done bytes object text (causes.Ran run_end) denotes comes = absurd comes
+  source_done bytes object text (causes.TraceRefused line why) denotes comes = absurd comes
   source_done bytes object text causes.Usage denotes comes = absurd comes
   source_done bytes object text causes.WriteFault denotes comes = absurd comes
   source_done bytes object text causes.Memory denotes comes = absurd comes
@@ -150,6 +151,8 @@ module _ (laws : Laws) where
   done (commands.Turns turns) before after own text files comes told well can =
       ran_to_end turns.setup comes.items before after comes.ended comes.left own files run_cause told (well refl) can comes.plays comes.end_is
   done (commands.Run run) before after own text files none told well can = absurd none
+  done (commands.Check check) before after own text files comes told well can =
+      ap (λ (end : End). end.cause) comes.end_is ∙ check_done laws.one_verdict check files can before after own text told (well refl) comes
   done (commands.Generate number) before after own text files comes are well can =
       let same : comes.files ≡ files = laws.one_set number comes.files files comes.are are in
       ran_to_end set_setup [] (set_at comes.files 0) (set_at comes.files comes.misses) comes.ended comes.left own files set_cause (ap Some same) never_rises can comes.plays comes.end_is

@@ -113,4 +113,5 @@ one_end one_walk one_stop not_both sources (commands.Assemble path) files before
     p.end_is ∙ ap bare (asm_end sources path before after before' after' files p.cause q.cause p.by fails q.by fails') ∙ sym q.end_is
 one_end one_walk one_stop not_both sources (commands.Turns turns) files before after before' after' a b p quiet q quiet' = absurd p
 one_end one_walk one_stop not_both sources (commands.Run run) files before after before' after' a b p quiet q quiet' = absurd p
+one_end one_walk one_stop not_both sources (commands.Check check) files before after before' after' a b p quiet q quiet' = absurd p
 one_end one_walk one_stop not_both sources (commands.Generate number) files before after before' after' a b p quiet q quiet' = absurd p

@@ -161,6 +161,8 @@ of_command laws (commands.Assemble path) before after own text over =
 of_command laws (commands.Turns turns) before after own text comes = kept (commands.Turns turns) before after own (run_cause comes.ended) comes.left comes.end_is
     (record { items = comes.items; says = comes.says; is = is_history laws turns.setup comes.items before after comes.ended comes.left comes.plays })
 of_command laws (commands.Run run) before after own text none = absurd none
+of_command laws (commands.Check check) before after own text comes =
+    nothing_kept (Some (commands.Check check)) before after own comes.cause comes.end_is
 of_command laws (commands.Generate number) before after own text comes = kept (commands.Generate number) before after own (set_cause comes.ended) comes.left comes.end_is
     (record {
       files = comes.files;

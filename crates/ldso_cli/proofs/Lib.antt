@@ -10,6 +10,7 @@ pub mod Kept
 pub mod Same
 pub mod Schedules
 pub mod Told
+pub mod Traces
 pub mod Turned
 pub mod Turning
 pub mod Whole

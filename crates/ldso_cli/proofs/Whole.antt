@@ -23,6 +23,7 @@ use Rattle.history_calls.specs.Startup.{harts_of}
 use Rattle.trace_text.specs.RunTexts.Printed.{journal_lines}
 use Rattle.trace_text.specs.declared.run_texts.record.RunRecord.{RunRecord}
 use Rattle.trace_text.specs.declared.run_texts.run_end.RunEnd.{RunEnd}
+use Rattle.trace_check.specs.Laws.{OneVerdict}
 use Rattle.world_turns.specs.declared.schedules.schedule.TurnItem.{TurnItem}
 use Rattle.world_laws.specs.TurnOnce.Laws.{NothingFails, is_from_outside}
 use Rattle.world_turns.specs.Counts.{is_refused_for, read_faults}
@@ -34,6 +35,7 @@ use Rattle.ldso_cli.proofs.Decided.{NotBoth, OneStop, one_end}
 use Rattle.ldso_cli.proofs.Same.{OneWalk, one_text}
 use Rattle.ldso_cli.proofs.Schedules.{one_schedule}
 use Rattle.ldso_cli.proofs.Told.{never_rises}
+use Rattle.ldso_cli.proofs.Traces.{one_checked}
 use Rattle.ldso_cli.proofs.Turning.{Quiet, RunLaw, one_end_kept, one_outcome}
 use Rattle.ldso_cli.specs.Asked.{Asks}
 use Rattle.ldso_cli.specs.Command.{WordsAnswer, IsAnswer, NoReadFails, OverFiles, Prints}
@@ -136,6 +138,7 @@ pub record Law : Type 0 where
   pub sources : SourceLaw
   pub runs : RunLaw
   pub one_set : OneSet
+  pub one_verdict : OneVerdict
 
 module _ (handed handed' : Handing) (law : Law) (words : List (List ℕ)) (files : List File) (first second : RunAt) (p : IsUndisturbed handed words files first) (q : IsUndisturbed handed' words files second) where
   come_to_one : (command : Option Command) (one : IsTold handed command first) (two : IsTold handed' command second) → AreOneEnd first.end second.end → one.text ≡ two.text → ComeToOne handed handed' first second
@@ -214,6 +217,11 @@ module _ (handed handed' : Handing) (law : Law) (words : List (List ℕ)) (files
       (p.reads_well (commands.Assemble path) asks.0 refl) (q.reads_well (commands.Assemble path) asks.0 refl) one two one.answers two.answers
   one_of (Some (commands.Turns turns)) asks one two = one_turned turns asks one two
   one_of (Some (commands.Run run)) asks one two = absurd one.answers
+  one_of (Some (commands.Check check)) asks one two =
+      let same = one_checked law.one_verdict check files first.before first.after second.before second.after first.end second.end one.text two.text (p.told (commands.Check check) asks.0 refl) (q.told (commands.Check check) asks.0 refl)
+      one.answers (no_reads handed (Some (commands.Check check)) first one (p.reads_well (commands.Check check) asks.0 refl))
+      two.answers (no_reads handed' (Some (commands.Check check)) second two (q.reads_well (commands.Check check) asks.0 refl)) in
+      come_to_one (Some (commands.Check check)) one two (same_end first.end second.end same.0) same.1
   one_of (Some (commands.Generate number)) asks one two = one_generated number one two
 
 pub one_answer : OneCommand → Law → (handed handed' : Handing) (words : List (List ℕ)) (files : List File) (first second : RunAt) → IsUndisturbed handed words files first → IsUndisturbed handed' words files second

@@ -12,6 +12,7 @@ CanBeDone (commands.Assemble path) = Unit {0}
 CanBeDone (commands.Dump path) = Unit {0}
 CanBeDone (commands.Turns turns) = IsScheduled turns
 CanBeDone (commands.Run run) = ⊥
+CanBeDone (commands.Check check) = Unit {0}
 CanBeDone (commands.Generate number) = Unit {0}
 
 -- words ask for the command that they are, if it can be done, and else for nothing

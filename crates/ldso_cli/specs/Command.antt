@@ -1,5 +1,5 @@
 -- What the words of the command line come to: a row for each command.
-use Rattle.std.specs.Prelude.{◌≡◌, ◌≢◌, ◌⊎◌, ℕ, Bool, true, false, List, Option, Some, None, IsFalse, IsTrue}
+use Rattle.std.specs.Prelude.{◌≡◌, ◌≢◌, ℕ, Bool, true, false, List, Option, Some, None, IsFalse, IsTrue}
 use Rattle.ld_base.specs.declared.fault.DlFault.TheVariants as dl
 use Rattle.ld_base.specs.declared.linking.File.{File}
 use Rattle.library_source.specs.Count.{Rises}
@@ -8,6 +8,7 @@ use Rattle.cli_words.specs.declared.command.Command.{Command}
 use Rattle.cli_words.specs.declared.command.Command.TheVariants as commands
 use Rattle.ldso_cli.specs.Asm.{AsmComes, AsmPrints}
 use Rattle.ldso_cli.specs.Bind.{BindComes, BindMisses, BindPrints}
+use Rattle.ldso_cli.specs.Check.{CheckComes}
 use Rattle.ldso_cli.specs.Dump.{DumpComes, DumpPrints}
 use Rattle.ldso_cli.specs.End.{bare}
 use Rattle.ldso_cli.specs.Generate.{GenComes}
@@ -25,22 +26,24 @@ pub record EndsBare (comes : Cause → Type 0) (end : End) : Type 0 where
   pub end_is : end ≡ bare cause
   pub by : comes cause
 
--- how a command that runs no program comes to an end over files, while its library goes on from one state to another
+-- how bind, dump and asm come to an end over files, while their library goes on from one state to another
 abbrev pub Comes : Command → LibraryAt → LibraryAt → List File → End → Type 0
 Comes (commands.Bind bind) before after files end = EndsBare (BindComes bind before after files) end
 Comes (commands.Dump path) before after files end = EndsBare (DumpComes path before after files) end
 Comes (commands.Assemble path) before after files end = EndsBare (AsmComes path before after files) end
 Comes (commands.Turns turns) before after files end = ⊥
 Comes (commands.Run run) before after files end = ⊥
+Comes (commands.Check check) before after files end = ⊥
 Comes (commands.Generate number) before after files end = ⊥
 
--- the text that a command that runs no program prints at an end, over files
+-- the text that bind, dump and asm print at an end, over files
 abbrev pub Prints : Command → List File → End → List ℕ → Type 0
 Prints (commands.Bind bind) files end text = BindPrints bind files end.cause text
 Prints (commands.Dump path) files end text = DumpPrints path files end.cause text
 Prints (commands.Assemble path) files end text = AsmPrints path files end.cause text
 Prints (commands.Turns turns) files end text = ⊥
 Prints (commands.Run run) files end text = ⊥
+Prints (commands.Check check) files end text = ⊥
 Prints (commands.Generate number) files end text = ⊥
 
 -- the library missed each file that a command's name could be. gen looks for its libraries in a library of its own, of which its row below tells
@@ -50,6 +53,7 @@ Misses (commands.Dump path) before after name = (name ≡ path) × Rises before.
 Misses (commands.Assemble path) before after name = (name ≡ path) × Rises before.misses after.misses
 Misses (commands.Turns turns) before after name = StartMisses turns.setup before after name
 Misses (commands.Run run) before after name = ⊥
+Misses (commands.Check check) before after name = (name ≡ check.trace) × Rises before.misses after.misses
 Misses (commands.Generate number) before after name = Unit {0}
 
 -- the end isn't that of a failed read
@@ -63,6 +67,7 @@ reads_library (commands.Dump path) = true
 reads_library (commands.Assemble path) = true
 reads_library (commands.Turns turns) = true
 reads_library (commands.Run run) = true
+reads_library (commands.Check check) = true
 reads_library (commands.Generate number) = false
 
 -- the library of a command that reads some tells these files
@@ -86,14 +91,15 @@ pub record IsUsage (end : End) (text : List ℕ) : Type 0 where
   pub end_is : end ≡ bare causes.Usage
   pub text_is : text ≡ usage_text
 
--- what a command comes to, before anything is written: an end, and a text. One that runs no program comes to them over the files that it
--- reads, where these are told, and over some files where they aren't; a run is one over the files as its library tells them
+-- what a command comes to, before anything is written: an end, and a text. bind, dump and asm come to them over the files that they
+-- read, where these are told, and over some files where they aren't; a run and a trace are judged by the files as the library tells them
 abbrev pub CommandAnswers : Command → LibraryAt → LibraryAt → End → List ℕ → Type 0
 CommandAnswers (commands.Bind bind) before after end text = OverFiles (commands.Bind bind) before after end text
 CommandAnswers (commands.Dump path) before after end text = OverFiles (commands.Dump path) before after end text
 CommandAnswers (commands.Assemble path) before after end text = OverFiles (commands.Assemble path) before after end text
 CommandAnswers (commands.Turns turns) before after end text = TurnsComes turns before after end text
 CommandAnswers (commands.Run run) before after end text = ⊥
+CommandAnswers (commands.Check check) before after end text = CheckComes check before after end text
 CommandAnswers (commands.Generate number) before after end text = GenComes number end text
 
 -- what the words come to

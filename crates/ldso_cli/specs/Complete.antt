@@ -20,6 +20,7 @@ use Rattle.trace_text.specs.RunTexts.Ends.{IsRunEnd}
 use Rattle.trace_text.specs.declared.run_texts.record.RunRecord.{RunRecord}
 use Rattle.trace_text.specs.declared.run_texts.run_end.RunEnd.{RunEnd}
 use Rattle.ldso_cli.specs.Bind.{BindLoads, namespace_of}
+use Rattle.ldso_cli.specs.Check.{IsLegalTrace}
 use Rattle.ldso_cli.specs.Command.{ReadsWell}
 use Rattle.ldso_cli.specs.Dump.{program_read}
 use Rattle.ldso_cli.specs.Generate.{set_cause, set_setup}
@@ -55,6 +56,7 @@ FilesSuffice (commands.Dump path) files = CanBeDumped path files
 FilesSuffice (commands.Assemble path) files = CanBeAssembled path files
 FilesSuffice (commands.Turns turns) files = CanStart (run_of turns.setup (Some files)) turns.setup
 FilesSuffice (commands.Run run) files = ⊥
+FilesSuffice (commands.Check check) files = IsLegalTrace check files
 FilesSuffice (commands.Generate number) files = CanStart (run_of set_setup (Some files)) set_setup
 
 -- the files that a command reads: those that its library tells, and of gen those that it makes
@@ -77,6 +79,7 @@ IsDone (commands.Dump path) end = end.cause ≡ causes.Done
 IsDone (commands.Assemble path) end = end.cause ≡ causes.Done
 IsDone (commands.Turns turns) end = RanToItsEnd causes.Ran end
 IsDone (commands.Run run) end = ⊥
+IsDone (commands.Check check) end = end.cause ≡ causes.Done
 IsDone (commands.Generate number) end = RanToItsEnd (λ run_end. set_cause (Ok run_end)) end
 
 -- over files that have it all, where neither the library nor the sink fails

@@ -69,6 +69,7 @@ IsKept (commands.Dump path) before after left = ⊥
 IsKept (commands.Assemble path) before after left = ⊥
 IsKept (commands.Turns turns) before after left = IsHistoryOfTurns turns before after left
 IsKept (commands.Run run) before after left = ⊥
+IsKept (commands.Check check) before after left = ⊥
 IsKept (commands.Generate number) before after left = IsHistoryOfSet number left
 
 -- so it is of what the words of a command keep

@@ -1,6 +1,8 @@
 pub mod Asked
 pub mod Asm
 pub mod Bind
+pub mod Check
+pub mod Checking
 pub mod Command
 pub mod Complete
 pub mod Dump

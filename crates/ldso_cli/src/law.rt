@@ -1,8 +1,10 @@
 //! What holds of every command.
 
-ghost use Rattle.std.specs.Prelude.{◌≡◌, ℕ, List};
+ghost use Rattle.std.specs.Prelude.{◌≡◌, ℕ, List, Some};
 ghost use Rattle.ld_base.specs.declared.linking.File.{File};
+ghost use Rattle.cli_words.specs.declared.command.Check.{Check};
 ghost use Rattle.cli_words.specs.declared.command.Command.{Command};
+ghost use Rattle.ldso_cli.specs.Check.{CheckComes};
 ghost use Rattle.ldso_cli.specs.Command.{Comes, NoReadFails, Prints};
 ghost use Rattle.ldso_cli.specs.Ends.{ComeToOne, IsUndisturbed, RunAt};
 ghost use Rattle.ldso_cli.specs.Laws.{AnswersAreHistories, AnswersComplete};
@@ -15,6 +17,7 @@ use history_journal::accepted_object;
 use lib_gen::one_set;
 use library_source::Sink;
 use scope_rule::one_outcome;
+use trace_check::one_verdict;
 use trace_text::one_run_end;
 use world_laws::{
     harts_follow, moments_are_true, runs_are_one, runs_are_whole, runs_have_journals,
@@ -40,9 +43,10 @@ pub fn one_answer<K: Sink, J: Sink>()
     one_startup();
     accepted_object();
     one_run_end();
+    one_verdict();
 }
 
-/// Where no read fails, the files decide how a command ends that runs no program.
+/// Where no read fails, the files decide how `bind`, `dump` and `asm` end.
 pub fn one_end()
     ensures { (command : Command) (files : List File) (before after before' after' : LibraryAt) (first second : End) →
         Comes command before after files first → NoReadFails first → Comes command before' after' files second → NoReadFails second → first ≡ second }
@@ -51,13 +55,22 @@ pub fn one_end()
     asm_layout::one_answer();
 }
 
-/// Over the same files such a command prints one text at an end.
+/// Over the same files they print one text at an end.
 pub fn one_text()
     ensures { (command : Command) (files : List File) (end : End) (first second : List ℕ) →
         Prints command files end first → Prints command files end second → first ≡ second }
 {
     one_outcome();
     asm_layout::one_answer();
+}
+
+/// Over the same files, where no read fails, `check` ends one way and prints one text.
+pub fn one_judgement()
+    ensures { (check : Check) (files : List File) (before after before' after' : LibraryAt) (first second : End) (text text' : List ℕ)
+        → before.files ≡ Some files → before'.files ≡ Some files → CheckComes check before after first text → NoReadFails first
+        → CheckComes check before' after' second text' → NoReadFails second → (first ≡ second) × (text ≡ text') }
+{
+    one_verdict();
 }
 
 /// What an answer keeps of a run is one legal history, over the files as its library tells them. Where the
@@ -84,4 +97,5 @@ pub(crate) fn answers_complete()
     asm_layout::one_answer();
     one_startup();
     one_set();
+    one_verdict();
 }

@@ -1,6 +1,6 @@
 //! The command `ldso`: which definition each procedure linkage slot of a program gets, what an object
-//! holds, the object that an assembler source denotes, what a program does when it runs, and a run of
-//! libraries that a number makes.
+//! holds, the object that an assembler source denotes, what a program does when it runs, whether the trace
+//! of a run is legal, and a run of libraries that a number makes.
 //!
 //! [`ldso`] is the whole of it, over any library of files and any sink of bytes. Which command words are
 //! stands in `cli_words`, and what its texts are in `cli_text`.
@@ -9,6 +9,7 @@
 mod answer;
 mod asm;
 mod bind;
+mod check;
 mod dump;
 mod generate;
 mod law;
@@ -17,6 +18,6 @@ mod play;
 mod top;
 mod turns;
 
-pub use law::{one_answer, one_end, one_text};
+pub use law::{one_answer, one_end, one_judgement, one_text};
 pub use outcome::{Cause, End, Outcome};
 pub use top::ldso;

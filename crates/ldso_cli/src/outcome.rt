@@ -7,6 +7,7 @@ ghost use Rattle.ldso_cli.specs.Status.{refused_text, status_of, status_of_cause
 
 use ld_base::{AsmCause, DlFault};
 use std::alloc::{AllocError, Global};
+use trace_check::TraceCause;
 use trace_text::{RunEnd, RunRecord};
 
 /// Why the command ends.
@@ -20,6 +21,8 @@ pub enum Cause {
     Refused(DlFault),
     /// The source is refused, at this line and for this cause.
     AsmRefused(u64, AsmCause),
+    /// The trace is refused, at this line and for this cause; or, without one, because it is too long.
+    TraceRefused(u64, Option<TraceCause>),
     /// The words are no command.
     Usage,
     /// The text couldn't be written.
@@ -82,6 +85,7 @@ fn status_of_cause(cause: &Cause) -> u8
         Cause::Ran(run_end) => run_end.status(),
         Cause::Refused(fault) => status_of_fault(fault),
         Cause::AsmRefused(_, _) => 119,
+        Cause::TraceRefused(_, _) => 117,
         Cause::Usage => 120,
         Cause::WriteFault => 122,
         Cause::Memory => 123,

@@ -14,6 +14,7 @@ ghost use Rattle.ldso_cli.specs.Status.{status_of};
 use crate::answer::{Answer, usage};
 use crate::asm::asm;
 use crate::bind::bind;
+use crate::check::check;
 use crate::dump::dump;
 use crate::generate::generate;
 use crate::law::{answers_are_histories, answers_complete};
@@ -27,29 +28,31 @@ use std::sync::Wait;
 use std::thread::Threads;
 
 /// What the words come to.
-fn answer<L: Library>(
+fn answer<L: Library + Drop>(
     alloc: Global,
     words: &[String],
-    library: &mut L,
-) -> Result<Answer, AllocError>
-    ensures answers { OfAsked (texts words.now) (λ command. IfOk result (λ answer. WordsAnswer command (library_at L.files L.faults L.misses library.old)
-        (library_at L.files L.faults L.misses library.new) answer.end answer.text)) }
-    ensures untouched { OfAsked (texts words.now) (λ command. LeavesLibrary command library.old library.new) }
-    ensures files { L.files library.new ≡ L.files library.old }
-    ensures faults { L.faults library.old ≤ L.faults library.new }
-    ensures misses { L.misses library.old ≤ L.misses library.new }
+    library: L,
+) -> (Result<Answer, AllocError>, L)
+    ensures answers { OfAsked (texts words.now) (λ command. IfOk result.0 (λ answer. WordsAnswer command (library_at L.files L.faults L.misses library)
+        (library_at L.files L.faults L.misses result.1) answer.end answer.text)) }
+    ensures untouched { OfAsked (texts words.now) (λ command. LeavesLibrary command library result.1) }
+    ensures files { L.files result.1 ≡ L.files library }
+    ensures faults { L.faults library ≤ L.faults result.1 }
+    ensures misses { L.misses library ≤ L.misses result.1 }
 {
     words_are_one_command();
+    let mut library = library;
     match read_command(alloc, words) {
-        Ok(Command::Bind(command)) => bind(alloc, command, library),
-        Ok(Command::Dump(path)) => dump(alloc, path, library),
-        Ok(Command::Assemble(path)) => asm(alloc, path, library),
-        Ok(Command::Turns(command)) => turns(alloc, &command, library),
-        Ok(Command::Generate(number)) => generate(alloc, number),
+        Ok(Command::Bind(command)) => (bind(alloc, command, &mut library), library),
+        Ok(Command::Dump(path)) => (dump(alloc, path, &mut library), library),
+        Ok(Command::Assemble(path)) => (asm(alloc, path, &mut library), library),
+        Ok(Command::Turns(command)) => (turns(alloc, &command, &mut library), library),
+        Ok(Command::Check(command)) => check(alloc, command, library),
+        Ok(Command::Generate(number)) => (generate(alloc, number), library),
         // This one isn't built yet.
-        Ok(Command::Run(_)) => usage(alloc),
-        Err(WordsFault::Usage) => usage(alloc),
-        Err(WordsFault::Memory) => Err(AllocError),
+        Ok(Command::Run(_)) => (usage(alloc), library),
+        Err(WordsFault::Usage) => (usage(alloc), library),
+        Err(WordsFault::Memory) => (Err(AllocError), library),
     }
 }
 
@@ -80,9 +83,10 @@ fn write_answer<K: Sink>(out: &mut K, answer: Result<Answer, AllocError>) -> End
 /// `Done` where the source denotes an object, whose bytes it writes alone, and else with the line that is
 /// refused and the cause. `turns` ends with the first refusal of startup, or with how the run by its
 /// schedule ended; it writes the run's journal, and what the run left is kept beside the end. A schedule
-/// that is none of so many harts is a `Usage`, too. `gen` makes its files itself and reads none of the
-/// library; it runs their program as `turns` would, writes a summary of the run, and ends with `Done` where
-/// the program exited.
+/// that is none of so many harts is a `Usage`, too. `check` ends with `Done` where the trace is legal; with the line
+/// that is refused, and the cause; or with the refusal of a trace that is missing, can't be read or is too long, or of
+/// an object that can't be read. `gen` makes its files itself and reads none of the library; it runs their program as
+/// `turns` would, writes a summary of the run, and ends with `Done` where the program exited.
 pub fn ldso<R: Threads + Wait + Sync, L: Library + Send + Drop, K: Sink>(
     rt: &R,
     alloc: Global,
@@ -119,8 +123,7 @@ pub fn ldso<R: Threads + Wait + Sync, L: Library + Send + Drop, K: Sink>(
     words_are_one_command();
     answers_are_histories();
     answers_complete();
-    let mut library = library;
-    let answer = answer(alloc, words.as_slice(), &mut library);
+    let (answer, library) = answer(alloc, words.as_slice(), library);
     let end = write_answer(out, answer);
     (end.into_outcome(), library)
 }

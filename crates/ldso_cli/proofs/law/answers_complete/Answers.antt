@@ -8,4 +8,5 @@ returns c = complete (record {
   never_both = c.one_answer.ensures.never_both;
   starts = c.one_startup.ensures.one;
   one_set = c.one_set.ensures;
+  one_verdict = c.one_verdict.ensures;
 })

@@ -18,5 +18,6 @@ returns g c = λ words files first second old new old' new'.
         run_end = c.one_run_end.ensures.one;
       };
       one_set = c.one_set.ensures;
+      one_verdict = c.one_verdict.ensures;
     })
     (handed_to g.K.Sink.writes old new) (handed_to g.J.Sink.writes old' new') words files first second

@@ -1,7 +1,7 @@
-use Rattle.std.proofs.Common.{◌≡◌, ◌<◌, ℕ, List, Some, Err, subst, sym}
+use Rattle.std.proofs.Common.{◌<◌, ℕ, List, Some, Err, subst, sym}
 use Rattle.history_calls.specs.CallLaws.Counts.{ArePathsAtStart, ShowsInCounts}
 use Rattle.history_calls.specs.declared.link_served.startup.StartFault.{StartFault}
-use Rattle.history_calls.specs.Startup.{FailsToStart, harts_of}
+use Rattle.history_calls.specs.Startup.{FailsToStart}
 use Rattle.link_startup.specs.Startup.{IsNotStarted, refusal_of_start}
 use Rattle.link_open_plan.specs.Startup.{run_of}
 use Rattle.plain_world.specs.Started.{start_events}

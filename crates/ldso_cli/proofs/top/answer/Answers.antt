@@ -45,15 +45,21 @@ pub returns-in-Ok-Turns-clause-answers : goal.returns-in-Ok-Turns-clause-answers
 returns-in-Ok-Turns-clause-answers g c =
     let reads : Reads (texts c.args.words.now) (commands.Turns c.in-Ok-Turns.command) =
     subst (λ (command : Command). Reads (texts c.args.words.now) command) c.in-Ok-Turns.field-0-is c.in-Ok-Turns.ensures.is in
-    let before = library_at g.L.Library.files g.L.Library.faults g.L.Library.misses c.args.library.now in
+    let before = library_at g.L.Library.files g.L.Library.faults g.L.Library.misses c.args.library in
     let after = library_at g.L.Library.files g.L.Library.faults g.L.Library.misses c.turns.new.library in
     turned c.words_are_one_command.ensures (texts c.args.words.now) c.in-Ok-Turns.command reads before after c.turns.result c.turns.ensures.comes
+
+pub returns-in-Ok-Check-clause-answers : goal.returns-in-Ok-Check-clause-answers
+returns-in-Ok-Check-clause-answers g c =
+    let reads : Reads (texts c.args.words.now) (commands.Check c.in-Ok-Check.command) =
+    subst (λ (command : Command). Reads (texts c.args.words.now) command) c.in-Ok-Check.field-0-is c.in-Ok-Check.ensures.is in
+    record { asked = Some (commands.Check c.in-Ok-Check.command); asks = (reads, tt); holds = c.check.ensures.answers }
 
 pub returns-in-Ok-Generate-clause-answers : goal.returns-in-Ok-Generate-clause-answers
 returns-in-Ok-Generate-clause-answers g c =
     let reads : Reads (texts c.args.words.now) (commands.Generate c.in-Ok-Generate.number) =
     subst (λ (command : Command). Reads (texts c.args.words.now) command) c.in-Ok-Generate.field-0-is c.in-Ok-Generate.ensures.is in
-    let library = library_at g.L.Library.files g.L.Library.faults g.L.Library.misses c.args.library.now in
+    let library = library_at g.L.Library.files g.L.Library.faults g.L.Library.misses c.args.library in
     generated (texts c.args.words.now) c.in-Ok-Generate.number reads library library c.generate.result c.generate.ensures.comes
 
 pub returns-clause-answers : goal.returns-clause-answers
@@ -83,7 +89,13 @@ pub returns-in-Ok-Turns-clause-untouched : goal.returns-in-Ok-Turns-clause-untou
 returns-in-Ok-Turns-clause-untouched g c =
     let reads : Reads (texts c.args.words.now) (commands.Turns c.in-Ok-Turns.command) =
     subst (λ (command : Command). Reads (texts c.args.words.now) command) c.in-Ok-Turns.field-0-is c.in-Ok-Turns.ensures.is in
-    turns_read c.words_are_one_command.ensures (texts c.args.words.now) c.in-Ok-Turns.command reads c.args.library.now c.turns.new.library c.turns.ensures.unread
+    turns_read c.words_are_one_command.ensures (texts c.args.words.now) c.in-Ok-Turns.command reads c.args.library c.turns.new.library c.turns.ensures.unread
+
+pub returns-in-Ok-Check-clause-untouched : goal.returns-in-Ok-Check-clause-untouched
+returns-in-Ok-Check-clause-untouched g c =
+    let reads : Reads (texts c.args.words.now) (commands.Check c.in-Ok-Check.command) =
+    subst (λ (command : Command). Reads (texts c.args.words.now) command) c.in-Ok-Check.field-0-is c.in-Ok-Check.ensures.is in
+    record { asked = Some (commands.Check c.in-Ok-Check.command); asks = (reads, tt); holds = λ no. absurd (true≢false no) }
 
 pub returns-in-Ok-Generate-clause-untouched : goal.returns-in-Ok-Generate-clause-untouched
 returns-in-Ok-Generate-clause-untouched g c =
@@ -94,4 +106,4 @@ returns-in-Ok-Generate-clause-untouched g c =
 pub returns-clause-untouched : goal.returns-clause-untouched
 returns-clause-untouched g c =
     let memory = c.in-Err-Memory.ensures.memory c.in-Err-Memory.field-0-is in
-    unanswered c.words_are_one_command.ensures (texts c.args.words.now) memory.0 memory.1 (λ command. left_as_is command c.args.library.now)
+    unanswered c.words_are_one_command.ensures (texts c.args.words.now) memory.0 memory.1 (λ command. left_as_is command c.args.library)

@@ -16,19 +16,19 @@ use Rattle.ldso_cli.proofs.top.ldso.Goals as goal
 pub returns-clause-ends : goal.returns-clause-ends
 returns-clause-ends g c =
     let before = library_at g.L.Library.files g.L.Library.faults g.L.Library.misses c.args.library in
-    let after = library_at g.L.Library.files g.L.Library.faults g.L.Library.misses c.answer-answer.new.library in
+    let after = library_at g.L.Library.files g.L.Library.faults g.L.Library.misses c.answer-answer.result.1 in
     let old = sink_at g.K.Sink.taken g.K.Sink.faults c.args.out.now in
     let new = sink_at g.K.Sink.taken g.K.Sink.faults c.write_answer-end.new.out in
     let handed = handed_to g.K.Sink.writes c.args.out.now c.write_answer-end.new.out in
     let P : Option Command → End → Type 0 = λ command end. WordsEnd handed command before after old new end in
     along (texts c.as_slice.result.now) (texts c.args.words.items) (ap (λ (ws : List (String Global)). texts ws) c.as_slice.ensures.value)
-    (λ command answers. subst (P command) (sym c.into_outcome.ensures.end) (ended handed command before after old new c.answer-answer.result c.write_answer-end.result answers c.write_answer-end.ensures.written))
+    (λ command answers. subst (P command) (sym c.into_outcome.ensures.end) (ended handed command before after old new c.answer-answer.result.0 c.write_answer-end.result answers c.write_answer-end.ensures.written))
     c.answer-answer.ensures.answers
 
 pub returns-clause-causes : goal.returns-clause-causes
 returns-clause-causes g c =
     let before = library_at g.L.Library.files g.L.Library.faults g.L.Library.misses c.args.library in
-    let after = library_at g.L.Library.files g.L.Library.faults g.L.Library.misses c.answer-answer.new.library in
+    let after = library_at g.L.Library.files g.L.Library.faults g.L.Library.misses c.answer-answer.result.1 in
     let old = sink_at g.K.Sink.taken g.K.Sink.faults c.args.out.now in
     let new = sink_at g.K.Sink.taken g.K.Sink.faults c.write_answer-end.new.out in
     let handed = handed_to g.K.Sink.writes c.args.out.now c.write_answer-end.new.out in
@@ -36,7 +36,7 @@ returns-clause-causes g c =
     let P : Option Command → Cause → Type 0 = λ command cause. IsCaused command before after old new cause in
     of_each c.words_are_one_command.ensures (texts c.args.words.items)
     (along (texts c.as_slice.result.now) (texts c.args.words.items) (ap (λ (ws : List (String Global)). texts ws) c.as_slice.ensures.value)
-    (λ command answers. subst (P command) (sym same) (end_caused handed command before after old new c.answer-answer.result c.write_answer-end.result answers c.write_answer-end.ensures.written))
+    (λ command answers. subst (P command) (sym same) (end_caused handed command before after old new c.answer-answer.result.0 c.write_answer-end.result answers c.write_answer-end.ensures.written))
     c.answer-answer.ensures.answers)
 
 pub returns-clause-untouched : goal.returns-clause-untouched
@@ -46,7 +46,7 @@ returns-clause-untouched g c =
 pub returns-clause-headline : goal.returns-clause-headline
 returns-clause-headline g c =
     let before = library_at g.L.Library.files g.L.Library.faults g.L.Library.misses c.args.library in
-    let after = library_at g.L.Library.files g.L.Library.faults g.L.Library.misses c.answer-answer.new.library in
+    let after = library_at g.L.Library.files g.L.Library.faults g.L.Library.misses c.answer-answer.result.1 in
     let old = sink_at g.K.Sink.taken g.K.Sink.faults c.args.out.now in
     let new = sink_at g.K.Sink.taken g.K.Sink.faults c.write_answer-end.new.out in
     let handed = handed_to g.K.Sink.writes c.args.out.now c.write_answer-end.new.out in
@@ -56,13 +56,13 @@ returns-clause-headline g c =
     (along (texts c.as_slice.result.now) (texts c.args.words.items) (ap (λ (ws : List (String Global)). texts ws) c.as_slice.ensures.value)
     (λ command answers. subst (P command) (sym same)
     (keeps handed command before after old new c.write_answer-end.result c.answers_are_histories.ensures
-    (ended handed command before after old new c.answer-answer.result c.write_answer-end.result answers c.write_answer-end.ensures.written)))
+    (ended handed command before after old new c.answer-answer.result.0 c.write_answer-end.result answers c.write_answer-end.ensures.written)))
     c.answer-answer.ensures.answers)
 
 pub returns-clause-complete : goal.returns-clause-complete
 returns-clause-complete g c =
     let before = library_at g.L.Library.files g.L.Library.faults g.L.Library.misses c.args.library in
-    let after = library_at g.L.Library.files g.L.Library.faults g.L.Library.misses c.answer-answer.new.library in
+    let after = library_at g.L.Library.files g.L.Library.faults g.L.Library.misses c.answer-answer.result.1 in
     let old = sink_at g.K.Sink.taken g.K.Sink.faults c.args.out.now in
     let new = sink_at g.K.Sink.taken g.K.Sink.faults c.write_answer-end.new.out in
     let handed = handed_to g.K.Sink.writes c.args.out.now c.write_answer-end.new.out in
@@ -71,5 +71,5 @@ returns-clause-complete g c =
     (along (texts c.as_slice.result.now) (texts c.args.words.items) (ap (λ (ws : List (String Global)). texts ws) c.as_slice.ensures.value)
     (λ command answers. subst (P command) (sym c.into_outcome.ensures.end)
     (completes handed command before after old new c.write_answer-end.result c.answers_complete.ensures
-    (ended handed command before after old new c.answer-answer.result c.write_answer-end.result answers c.write_answer-end.ensures.written)))
+    (ended handed command before after old new c.answer-answer.result.0 c.write_answer-end.result answers c.write_answer-end.ensures.written)))
     c.answer-answer.ensures.answers)
