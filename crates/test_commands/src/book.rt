@@ -156,10 +156,24 @@ impl<'a> Book<'a> {
                 let files = files_of(self.alloc, self.command.files.as_slice())?;
                 let answer = self.command.run(rt, self.alloc, files)?;
                 let holds = self.wanted.is_all_of(&answer);
-                self.tell(holds, self.first, &answer)
+                self.tell(holds, self.first, &answer)?;
+                self.judge(rt, &answer)
             }
             Part::Rows if !self.has_row => self.report.is_unclear(self.path, self.first),
             Part::Rows | Part::Head => Ok(()),
+        }
+    }
+
+    /// Has the history judged that the example's command wrote, if it did: it is legal, each of its events.
+    fn judge<R: Threads + Wait + Sync>(
+        &mut self,
+        rt: &R,
+        answer: &Answer,
+    ) -> Result<(), AllocError> {
+        let files = files_of(self.alloc, self.command.files.as_slice())?;
+        match self.command.judge(rt, self.alloc, files, answer)? {
+            Some(judgement) => self.tell(judgement.calls_legal(answer), self.first, &judgement),
+            None => Ok(()),
         }
     }
 

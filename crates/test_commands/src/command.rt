@@ -1,18 +1,32 @@
 //! Commands, run over files in memory.
 
 use crate::layout::Layout;
-use ld_base::{Calls, Files, Name};
+use ld_base::{Bytes, Calls, File, Files, Name};
 use ldso_cli::ldso;
 use library_source::{MemLibrary, MemSink};
 use std::alloc::{AllocError, Global};
 use std::sync::Wait;
 use std::thread::Threads;
 
+/// The status of words that are no command.
+const USAGE: u8 = 120;
+
+/// The path of the history that is judged.
+const TRACE: &str = "the-trace";
+
 /// What a command came to.
 #[derive(Drop)]
 pub struct Answer {
     pub status: u8,
     pub text: Vec<u8>,
+}
+
+impl Answer {
+    /// Whether it is that a history which was written is legal, with as many events as it has lines before the last.
+    pub fn calls_legal(&self, history: &Answer) -> bool {
+        let text = str::from_utf8(history.text.as_slice()).unwrap_or("");
+        count_in(self.text.as_slice()) == Some(text.lines().skip(1).count())
+    }
 }
 
 /// A command, the files that it finds, and which of its reads and writes fail.
@@ -52,6 +66,34 @@ impl Command {
         )
     }
 
+    /// What comes of the history that the command wrote, where it ran a program and nothing failed: it is
+    /// judged over the same files.
+    pub fn judge<R: Threads + Wait + Sync>(
+        &self,
+        rt: &R,
+        alloc: Global,
+        mut files: Files,
+        answer: &Answer,
+    ) -> Result<Option<Answer>, AllocError> {
+        if answer.status == USAGE
+            || !self.failing_reads.is_empty()
+            || !self.failing_writes.is_empty()
+        {
+            return Ok(None);
+        }
+        let own = words_of(alloc, self.words.as_bytes())?;
+        let Some(words) = judging(alloc, own.as_slice(), answer.text.as_slice())? else {
+            return Ok(None);
+        };
+        files.push(File {
+            path: Name::new(alloc, TRACE.as_bytes())?,
+            bytes: Bytes::from_slice(alloc, answer.text.as_slice())?,
+        })?;
+        let library = self.library(alloc, files)?;
+        let sink = MemSink::new(alloc, Calls::new(alloc));
+        Ok(Some(run_words(rt, alloc, words, library, sink)?))
+    }
+
     /// The files, of which some reads fail.
     fn library(&self, alloc: Global, files: Files) -> Result<MemLibrary, AllocError> {
         Ok(MemLibrary::new(alloc, files, calls(alloc, &self.failing_reads)?))
@@ -86,6 +128,69 @@ pub fn files_of(alloc: Global, layouts: &[Layout]) -> Result<Files, AllocError> 
         files.push(layout.to_file(alloc)?)?;
     }
     Ok(files)
+}
+
+/// The words by which the history is judged that a command wrote: none where it writes none, where it loads more than
+/// the program asks for, or where its start is refused before it names its harts.
+fn judging(
+    alloc: Global,
+    words: &[String],
+    text: &[u8],
+) -> Result<Option<Vec<String>>, AllocError> {
+    let writes = match words.first() {
+        Some(word) if word.as_str() == "turns" => true,
+        Some(word) if word.as_str() == "run" => words.iter().any(|word| word.as_str() == "--trace"),
+        _ => false,
+    };
+    if !writes || has_option(words, "--preload") {
+        return Ok(None);
+    }
+    if has_option(words, "--harts") && is_refused(text) {
+        return Ok(None);
+    }
+    let mut judging = Vec::new(alloc);
+    judging.push(String::from_str(alloc, "check")?)?;
+    push_folders(alloc, &mut judging, words)?;
+    judging.push(String::from_str(alloc, TRACE)?)?;
+    Ok(Some(judging))
+}
+
+/// How many events a history has that is legal.
+fn count_in(text: &[u8]) -> Option<usize> {
+    let line = str::from_utf8(text).ok()?.trim_end();
+    line.strip_prefix("end 0 legal ")?.parse().ok()
+}
+
+/// Whether an option stands among the words.
+fn has_option(words: &[String], name: &str) -> bool {
+    words.iter().any(|word| word.as_str().starts_with(name))
+}
+
+/// Whether the history has no line but that of an opening.
+fn is_refused(text: &[u8]) -> bool {
+    let mut lines = str::from_utf8(text).unwrap_or("").lines();
+    let _ = lines.next();
+    match lines.next() {
+        Some(line) => line.starts_with("end "),
+        None => true,
+    }
+}
+
+/// Puts the option that names folders, and its value.
+fn push_folders(
+    alloc: Global,
+    judging: &mut Vec<String>,
+    words: &[String],
+) -> Result<(), AllocError> {
+    let mut is_value = false;
+    for word in words {
+        let word = word.as_str();
+        if is_value || word.starts_with("--lib") {
+            judging.push(String::from_str(alloc, word)?)?;
+        }
+        is_value = word == "--lib";
+    }
+    Ok(())
 }
 
 /// The words of a line of text. Two single quotes are an empty word.
