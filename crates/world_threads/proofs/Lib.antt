@@ -1,0 +1,13 @@
+mod Comes
+mod Counted
+mod Finished
+mod Kept
+mod LastEnds
+mod Memory
+mod Named
+mod Over
+mod Ways
+mod Ready
+mod Setting
+mod Shown
+mod Started

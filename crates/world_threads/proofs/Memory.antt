@@ -1,0 +1,34 @@
+-- Memory with what startup brings.
+use Rattle.std.proofs.Common.{◌≡◌, ℕ, ◌≤◌, List, [], refl, sym, ap, subst, ◌∙◌, arith}
+use Rattle.history_event.specs.declared.event.Event.{Event}
+use Rattle.history_calls.specs.declared.link_served.installs.Installs.{Installs}
+use Rattle.history_state.specs.After.{after}
+use Rattle.history_state.specs.Setting.{Setting}
+use Rattle.word_installs.specs.Installed.{IsInstalled}
+use Rattle.word_installs.specs.Starting.{IsFresh, IsStartup, StartupKept}
+use Rattle.word_memory.specs.WordSeats.Making.{IsMade}
+use Rattle.word_rule.specs.declared.view.KeeperView.{KeeperView}
+use Rattle.word_rule.specs.Views.{IsLong, row_of}
+use Rattle.world_threads.specs.Setting.{HasStarted}
+
+-- a new memory whose events are counted
+pub fresh_at : (w : Setting) (begun : List Event) (harts : ℕ) (k l : KeeperView) → IsMade k 512 harts → w.machine.harts ≡ harts → l ≡ record k { events = begun } → IsFresh w begun l
+fresh_at w begun harts k l made count is = subst (IsFresh w begun) (sym is) (record {
+  words = made.words;
+  rows = made.rows;
+  harts = made.harts_are ∙ sym count;
+  events = refl;
+})
+
+pub low_generation : (harts n : ℕ) (begun : List Event) (k l : KeeperView) → IsMade k 512 harts → l ≡ record k { events = begun } → l.generation ≤ n
+low_generation harts n begun k l made is = subst (λ (g : ℕ). g ≤ n) (sym (ap (λ (v : KeeperView). v.generation) is ∙ made.no_modules)) (omega arith)
+
+-- and once its objects are installed
+pub has_started : StartupKept → (w : Setting) (begun : List Event) (installs : Installs) (k l : KeeperView) → IsStartup w begun installs → IsFresh w begun k → k.joined ≡ [] → IsLong l
+    → IsInstalled installs k l → l.generation ≡ (after begun).generation → HasStarted w begun l
+has_started kept w begun installs k l start fresh none long installed generation = record {
+  kept = kept w begun installs k l start fresh long installed generation;
+  events = ap (λ (v : KeeperView). v.events) installed.only ∙ fresh.events;
+  rows = λ m. ap (λ (v : KeeperView). row_of v m) installed.only ∙ fresh.rows m;
+  none_joined = ap (λ (v : KeeperView). v.joined) installed.only ∙ none;
+}

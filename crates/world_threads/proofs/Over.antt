@@ -1,0 +1,261 @@
+-- A run is over: what its harts' ways and the keeper's last word come to.
+use Rattle.std.proofs.Common.{◌≡◌, ◌≢◌, ◌⊎◌, ⊎_elim, inl, inr, ℕ, zero, suc, ◌+◌, ◌≤◌, ◌<◌, ◌&&◌, take, List, [], ◌∷◌, ◌++◌, length, map, Option, Some, None, refl, sym, ap, subst, ◌∙◌, append_assoc, arith}
+use Rattle.std.specs.Prelude.{IsTrue}
+use Rattle.std.proofs.lemmas.List.{length-map}
+use Rattle.std.specs.Prelude.{nat_le}
+use Rattle.std.specs.List.{Contains, list_all, slice_get}
+use Rattle.std.proofs.lemmas.List.Elements.{Contains-append_right}
+use Rattle.std.proofs.lemmas.Option.{none-some, slice_get_within}
+use Rattle.history_event.specs.declared.event.Event.{Event}
+use Rattle.history_event.specs.declared.hart_end.HartEnd.{HartEnd}
+use Rattle.history_event.specs.declared.state.Ending.{Ending}
+use Rattle.history_calls.specs.declared.link_served.startup.Setup.{Setup}
+use Rattle.history_calls.specs.declared.link_served.startup.Started.{Started}
+use Rattle.history_calls.specs.Laws.{hart_of}
+use Rattle.history_calls.specs.Startup.{Starts}
+use Rattle.history_state.specs.After.{after}
+use Rattle.history_state.specs.Lemmas.Lists.{at_in, first_or_later, here, later, none_in}
+use Rattle.history_state.specs.Legal.{Legal, Whole}
+use Rattle.history_state.specs.Setting.{Setting, exited, have_exited}
+use Rattle.hart_moves.specs.Follows.{AreOthers, FollowsToItsEnd, HasNone}
+use Rattle.hart_moves.specs.Laws.{EndedStays}
+use Rattle.hart_moves.specs.Moves.{all_finis}
+use Rattle.hart_moves.specs.Starting.{HartStart, IsStartOf}
+use Rattle.hart_moves.specs.TurnEvents.Laws.{TurnsAppend}
+use Rattle.hart_threads.specs.Laws.{WaysStay}
+use Rattle.hart_trails.specs.Ends.{EndIsLast, StartIsFresh}
+use Rattle.hart_trails.specs.Laws.{EndsFollow, MarksFollow}
+use Rattle.hart_trails.specs.Owners.{AreOfHarts}
+use Rattle.hart_trails.specs.Trails.{LeavesToItsEnd}
+use Rattle.kept_words.specs.Kept.{AreKept, IsFateEvent}
+use Rattle.kept_words.specs.Over.{IsFinished, IsOver}
+use Rattle.link_keeper.specs.Finishing.{IsExchangeOf, RunIsOver, TrailIsClosed, knows}
+use Rattle.link_keeper.specs.Keeping.{FirstGoesOn, WasOver}
+use Rattle.trace_text.specs.RunTexts.Ends.{AreLastEnds, last_end}
+use Rattle.trace_text.specs.declared.run_texts.record.RunRecord.{RunRecord}
+use Rattle.word_rule.specs.declared.view.Fate.{Fate}
+use Rattle.word_rule.specs.declared.view.HartView.{HartView}
+use Rattle.word_rule.specs.declared.view.KeeperView.{KeeperView}
+use Rattle.word_rule.specs.Views.{BeginsWith}
+use Rattle.world_threads.specs.Running.{HaveRun, WayOf}
+use Rattle.world_threads.specs.Threaded.{HartRan, IsThreaded}
+use Rattle.world_threads.proofs.Finished.{finishes, nobodys_end, nobodys_leave}
+use Rattle.world_threads.proofs.LastEnds.{last_end_is}
+
+-- ---- lists
+
+-- an element behind so many
+got_behind : (past more : List Event) (k : ℕ) (e : Event) → slice_get more k ≡ Some e → slice_get (past ++ more) (length past + k) ≡ Some e
+got_behind [] more k e got = subst (λ (n : ℕ). slice_get more n ≡ Some e) (let same : k ≡ 0 + k = omega arith in same) got
+got_behind (x ∷ past) more k e got = subst (λ (n : ℕ). slice_get (x ∷ past ++ more) n ≡ Some e) (let same : suc (length past + k) ≡ suc (length past) + k = omega arith in same) (got_behind past more k e got)
+
+in_at : (es : List Event) (e : Event) → Contains es e → (k : ℕ) × (slice_get es k ≡ Some e)
+in_at [] e there = absurd (none_in e there)
+in_at (x ∷ es) e there = ⊎_elim
+    (λ (same : x ≡ e). (zero, ap (λ (y : Event). Some y) same))
+    (λ (behind : Contains es e). let at = in_at es e behind in (suc at.0, at.1))
+    (first_or_later x es e there)
+
+-- an element of two lists one behind the other is in the front of the first, or in the second
+split_at : (xs ys zs : List Event) (e : Event) (ws : List Event) → xs ++ ys ≡ zs ++ e ∷ ws → ((rest : List Event) × (xs ≡ zs ++ e ∷ rest)) ⊎ Contains ys e
+split_at [] ys [] e ws are = inr (subst (λ (es : List Event). Contains es e) (sym are) (here e ws))
+split_at [] ys (z ∷ zs) e ws are = inr (subst (λ (es : List Event). Contains es e) (sym are) (later z (zs ++ e ∷ ws) e (in_back zs e ws)))
+  where
+    in_back : (zs : List Event) (e : Event) (ws : List Event) → Contains (zs ++ e ∷ ws) e
+    in_back [] e ws = here e ws
+    in_back (z ∷ zs) e ws = later z (zs ++ e ∷ ws) e (in_back zs e ws)
+split_at (x ∷ xs) ys [] e ws are = inl (xs, (let same : x ≡ e = cc in ap (λ (y : Event). y ∷ xs) same))
+split_at (x ∷ xs) ys (z ∷ zs) e ws are =
+    let same : x ≡ z = cc in
+    let tails : xs ++ ys ≡ zs ++ e ∷ ws = cc in
+    ⊎_elim
+    (λ (front : (rest : List Event) × (xs ≡ zs ++ e ∷ rest)). inl (front.0, (λ i. same i ∷ front.1 i)))
+    (λ (behind : Contains ys e). inr behind)
+    (split_at xs ys zs e ws tails)
+
+-- those that a longer list has more
+behind_in : (front more : List Event) (k : ℕ) (e : Event) → length front ≤ k → slice_get (front ++ more) k ≡ Some e → Contains more e
+behind_in [] more k e low got = at_in more k e got
+behind_in (x ∷ front) more zero e low got = absurd (let no : suc (length front) ≤ 0 = low in omega (arith, no))
+behind_in (x ∷ front) more (suc k) e low got = behind_in front more k e (let less : suc (length front) ≤ suc k = low in omega (arith, less)) got
+
+-- ---- harts' views in their order
+
+seat_at : (seats : List HartView) (k : ℕ) → k < length seats → (j : HartView) × (slice_get seats k ≡ Some j)
+seat_at [] k low = absurd (let no : k < 0 = low in omega (arith, no))
+seat_at (j ∷ seats) zero low = (j, refl)
+seat_at (j ∷ seats) (suc k) low = seat_at seats k (let less : suc k < suc (length seats) = low in omega (arith, less))
+
+end_at : (ends : List HartEnd) (k : ℕ) → k < length ends → (reason : HartEnd) × (slice_get ends k ≡ Some reason)
+end_at [] k low = absurd (let no : k < 0 = low in omega (arith, no))
+end_at (r ∷ ends) zero low = (r, refl)
+end_at (r ∷ ends) (suc k) low = end_at ends k (let less : suc k < suc (length ends) = low in omega (arith, less))
+
+in_map : (f : HartView → HartView) (seats : List HartView) (k : ℕ) (j : HartView) → slice_get seats k ≡ Some j → slice_get (map f seats) k ≡ Some (f j)
+in_map f [] k j got = absurd (none-some j got)
+in_map f (i ∷ seats) zero j got = (let same : i ≡ j = cc in ap (λ (h : HartView). Some (f h)) same)
+in_map f (i ∷ seats) (suc k) j got = in_map f seats k j got
+
+from_map : (f : HartView → HartView) (seats : List HartView) (k : ℕ) (h : HartView) → slice_get (map f seats) k ≡ Some h → (j : HartView) × (slice_get seats k ≡ Some j) × (f j ≡ h)
+from_map f [] k h got = absurd (none-some h got)
+from_map f (i ∷ seats) zero h got = (i, refl, (let same : f i ≡ h = cc in same))
+from_map f (i ∷ seats) (suc k) h got = from_map f seats k h got
+
+-- ---- the run
+
+pub record Laws : Type 0 where
+  pub stay : WaysStay
+  pub follow : EndsFollow
+  pub append : TurnsAppend
+  pub ended : EndedStays
+  pub marks : MarksFollow
+  pub last : EndIsLast
+  pub fresh : StartIsFresh
+
+-- what is known where the run is over
+pub record IsOverAt (w : Setting) (setup : Setup) (past : List Event) (started : Started) (before journal : List Event) (ends : List HartEnd) (seats : List HartView) : Type 0 where
+  pub over : RunIsOver w past before journal seats
+  pub last : FirstGoesOn w before
+  pub some : 0 < w.machine.harts
+  pub run : HaveRun w setup past started ends seats
+
+module _ (laws : Laws) (w : Setting) (setup : Setup) (past : List Event) (started : Started) (before journal : List Event) (ends : List HartEnd) (seats : List HartView)
+    (x : IsOverAt w setup past started before journal ends seats) where
+  -- behind what a hart has heard nothing is its own
+  others : (h : ℕ) (j : HartView) → slice_get seats h ≡ Some j → (rest : List Event) → journal ≡ j.heard ++ rest → AreOthers h rest
+  others h j at rest are e there own =
+      let place = in_at rest e there in
+      let got : slice_get journal (length j.heard + place.0) ≡ Some e = subst (λ (es : List Event). slice_get es (length j.heard + place.0) ≡ Some e) (sym are) (got_behind j.heard rest place.0 e place.1) in
+      let within : length j.heard + place.0 < length journal = slice_get_within journal (length j.heard + place.0) e got in
+      (x.over.trails h j at).none (length j.heard + place.0) e (omega arith) within got own
+
+  -- behind what the first one has heard all is nobody's
+  nobodys : (first : HartView) → slice_get seats 0 ≡ Some first → (rest : List Event) → journal ≡ first.heard ++ rest → (e : Event) → Contains rest e → hart_of e ≡ None
+  nobodys first at rest are e there = by (hart_of e) refl
+    where
+      of_none : (m : ℕ) → hart_of e ≡ Some m → ⊥
+      of_none zero own = others 0 first at rest are e there own
+      of_none (suc m) own =
+          let low : suc m < length seats = (let there_is = x.over.own e (suc m) (subst (λ (es : List Event). Contains es e) (sym are) (Contains-append_right first.heard rest e there)) own in let all = x.run.all in omega (arith, there_is, all)) in
+          let j = seat_at seats (suc m) low in
+          let front = x.run.fronts first (suc m) j.0 at (omega arith) j.1 in
+          others (suc m) j.0 j.1 (front.0 ++ rest) (are ∙ ap (λ (es : List Event). es ++ rest) front.1 ∙ append_assoc j.0.heard front.0 rest) e (Contains-append_right front.0 rest e there) own
+
+      by : (o : Option ℕ) → hart_of e ≡ o → hart_of e ≡ None
+      by None is = is
+      by (Some m) is = absurd (of_none m is)
+
+  -- only the first hart's events come, once every hart has ended by exit, and nobody's
+  goes_on : FirstGoesOn w journal
+  goes_on front e rest are over = ⊎_elim
+      (λ (there : (tail : List Event) × (before ≡ front ++ e ∷ tail)). x.last front e there.0 there.1 over)
+      (λ (there : Contains x.over.more e). inr (x.over.nobodys e there))
+      (split_at before x.over.more front e rest (sym x.over.are ∙ are))
+
+  -- ---- each way, over the whole journal
+
+  module _ (h : ℕ) (reason : HartEnd) (j : HartView) (at_end : slice_get ends h ≡ Some reason) (at : slice_get seats h ≡ Some j) where
+    pub closed : TrailIsClosed w past journal h j
+    closed = x.over.trails h j at
+
+    pub of : WayOf w setup past started h reason j
+    of = x.run.ways h reason j at_end at
+
+    still : h ≡ 0 → (e : Event) → Contains closed.longer.0 e → hart_of e ≡ None
+    still zeroth = nobodys j (subst (λ (n : ℕ). slice_get seats n ≡ Some j) zeroth at) closed.longer.0 closed.longer.1
+
+    pub way_on : LeavesToItsEnd w journal of.start h reason j.trail
+    way_on = subst (λ (es : List Event). LeavesToItsEnd w es of.start h reason j.trail) (sym closed.longer.1)
+        (laws.stay w j.heard closed.longer.0 of.start h reason j.trail of.way (others h j at closed.longer.0 closed.longer.1)
+        (λ zeroth. ap (λ (es : List Ending). nat_le w.machine.harts (length es) && list_all exited (take w.machine.harts es)) (nobodys_end j.heard closed.longer.0 (still zeroth)))
+        (λ zeroth. nobodys_leave j.heard closed.longer.0 (still zeroth)))
+
+    -- so it is of the view that the keeper keeps
+    joined_none : HasNone journal h (length before) (length journal)
+    joined_none k e from to got own =
+        let there : Contains x.over.more e = behind_in before x.over.more k e from (subst (λ (es : List Event). slice_get es k ≡ Some e) x.over.are got) in
+        let no : None ≡ Some h = sym (x.over.nobodys e there) ∙ own in
+        cc no
+
+    pub hart_ran : HartRan w setup past started journal h reason (knows before j)
+    hart_ran = record {
+      start = of.start;
+      sets_off = of.sets_off;
+      way = way_on;
+      says = record {
+        number = closed.number;
+        longer = (x.over.more, x.over.are);
+        none = joined_none;
+        is_true = record {
+          issued = closed.is_true.issued;
+          events = closed.is_true.events;
+          granted = closed.is_true.granted;
+          won = closed.is_true.won;
+          lost = closed.is_true.lost;
+        };
+        rising = closed.rising;
+        kept = closed.kept;
+      };
+      once = laws.marks w journal of.start h reason j.trail way_on closed.kept;
+    }
+
+  -- the end that it leads to is the last one
+  last_is : (h : ℕ) (reason : HartEnd) → slice_get ends h ≡ Some reason → last_end h (after journal).endings ≡ Some reason
+  last_is h reason at_end =
+      let low : h < length seats = (let within = slice_get_within ends h reason at_end in let seats_are = x.run.all in let ends_are = x.run.all_end in omega (arith, within, seats_are, ends_are)) in
+      let j = seat_at seats h low in
+      let way = of h reason j.0 at_end j.1 in
+      last_end_is journal h way.start.from reason
+      (laws.last w journal way.start h reason j.0.trail (laws.fresh setup.fuel past started h way.start way.sets_off) (way_on h reason j.0 at_end j.1))
+
+  -- ---- the whole of it
+
+  finished : IsFinished w journal
+  finished finals =
+      let low : 0 < length seats = (let some = x.some in let all = x.run.all in omega (arith, some, all)) in
+      let low_end : 0 < length ends = (let some = x.some in let all = x.run.all_end in omega (arith, some, all)) in
+      let j = seat_at seats 0 low in
+      let reason = end_at ends 0 low_end in
+      let start = (of 0 reason.0 j.0 reason.1 j.1).start in
+      finishes laws.append laws.ended w journal start reason.0 goes_on (laws.follow w journal start 0 reason.0 j.0.trail (way_on 0 reason.0 j.0 reason.1 j.1)) finals
+
+  pub threaded : (left : RunRecord) (trails : KeeperView) (earlier : List HartView) → left.journal.events ≡ journal → left.ends ≡ ends → trails.events ≡ journal
+      → trails.joined ≡ earlier ++ map (knows before) seats → AreKept w past trails → IsOver trails → Starts w setup past started → IsThreaded w setup left trails
+  threaded left trails earlier events_are ends_are counted joined kept known starts = record {
+    past = past;
+    started = started;
+    starts = starts;
+    more = x.over.begins.0;
+    begins = events_are ∙ x.over.begins.1;
+    legal = subst (Legal w) (sym events_are) x.over.legal;
+    whole = subst (Whole w) (sym events_are) (x.over.whole finished);
+    own = subst (AreOfHarts w) (sym events_are) x.over.own;
+    counted = counted ∙ sym events_are;
+    kept = kept;
+    over = known;
+    earlier = earlier;
+    harts = map (knows before) seats;
+    joined = joined;
+    last = record {
+      all = ap length ends_are ∙ x.run.all_end;
+      each = λ h reason at.
+          ap (λ (es : List Event). last_end h (after es).endings) events_are ∙ last_is h reason (subst (λ (rs : List HartEnd). slice_get rs h ≡ Some reason) ends_are at);
+    };
+    all_told = length-map seats (knows before) ∙ x.run.all;
+    each = λ h reason hart at_end at.
+        let got = from_map (knows before) seats h hart at in
+        subst (λ (es : List Event). HartRan w setup past started es h reason hart) (sym events_are)
+        (subst (HartRan w setup past started journal h reason) got.2 (hart_ran h reason got.0 (subst (λ (rs : List HartEnd). slice_get rs h ≡ Some reason) ends_are at_end) got.1));
+    fates = λ number f e there is.
+        let of_seat = x.over.fates number f e (subst (λ (es : List Event). Contains es e) events_are there) is in
+        subst (λ (es : List Event). IsExchangeOf es (map (knows before) seats) number f e) (sym events_are) (record {
+          hart = of_seat.hart;
+          view = knows before of_seat.view;
+          there = in_map (knows before) seats of_seat.hart of_seat.view of_seat.there;
+          grant = of_seat.grant;
+          event = of_seat.event;
+          number_is = of_seat.number_is;
+          come = of_seat.come;
+          shown = of_seat.shown;
+        });
+  }

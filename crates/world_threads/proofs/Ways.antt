@@ -1,0 +1,280 @@
+-- Harts that were set off have run to their ends.
+use Rattle.std.proofs.Common.{◌≡◌, ◌≢◌, ◌⊎◌, ⊎_elim, inl, inr, ℕ, zero, suc, ◌+◌, ◌≤◌, ◌<◌, false, true, List, [], ◌∷◌, ◌++◌, drop, get_or, length, map, Option, Some, None, refl, sym, ap, subst, ◌∙◌, append_assoc, arith}
+use Rattle.std.proofs.lemmas.List.{length-map}
+use Rattle.std.specs.Option.{IsSome}
+use Rattle.std.specs.List.{Contains, slice_get}
+use Rattle.std.proofs.lemmas.Option.{get_or_from_slice_get, none-some, slice_get_within}
+use Rattle.history_event.specs.declared.event.Event.{Event}
+use Rattle.history_event.specs.declared.handed.HartEntry.{HartEntry}
+use Rattle.history_event.specs.declared.hart_end.HartEnd.{HartEnd}
+use Rattle.history_calls.specs.declared.link_served.startup.Setup.{Setup}
+use Rattle.history_calls.specs.declared.link_served.startup.Started.{Started}
+use Rattle.history_calls.specs.Laws.{HartsHaveEntries, StartsLegal}
+use Rattle.history_calls.specs.Startup.{harts_of}
+use Rattle.history_state.specs.Lemmas.Lists.{at_in}
+use Rattle.history_state.specs.Setting.{Setting}
+use Rattle.hart_fits.specs.Fits.{StartFits}
+use Rattle.hart_fits.specs.Owners.{StartHasOwners}
+use Rattle.hart_linker.specs.Between.{HasHeard}
+use Rattle.hart_moves.specs.Harts.{HartState}
+use Rattle.hart_moves.specs.Starting.{HartStart, starting_harts, starting_registers}
+use Rattle.hart_threads.specs.Ends.{IsAtStart, IsNewAt, IsThrough, RanWhole}
+use Rattle.hart_threads.specs.Laws.{OthersRunWhole}
+use Rattle.hart_threads.specs.Run.{IsReady, RunsToEnd}
+use Rattle.hart_threads.specs.Turns.{RunsBy}
+use Rattle.hart_trails.specs.Trails.{LeavesToItsEnd}
+use Rattle.tls_blocks.specs.Blocks.{BlockTable}
+use Rattle.word_memory.specs.WordSeats.Making.{new_harts}
+use Rattle.word_rule.specs.declared.view.HartView.{HartView}
+use Rattle.word_rule.specs.declared.view.TrailItem.{TrailItem}
+use Rattle.word_rule.specs.Views.{BeginsWith, first_hart}
+use Rattle.world_threads.specs.Running.{HaveRun, SetsOff, WayOf}
+use Rattle.world_threads.specs.Setting.{KeepsNone, hears, told_hart}
+use Rattle.world_threads.proofs.Ready.{all_are, entry_of, new_at, ready, runs_by, start, start_is}
+use Rattle.world_threads.proofs.Started.{machine_harts}
+
+-- ---- lists
+
+pub element_at : {X : Type 0} (xs : List X) (k : ℕ) → k < length xs → (x : X) × (slice_get xs k ≡ Some x)
+element_at [] k low = absurd (let no : k < 0 = low in omega (arith, no))
+element_at (x ∷ xs) zero low = (x, refl)
+element_at (x ∷ xs) (suc k) low = element_at xs k (let less : suc k < suc (length xs) = low in omega (arith, less))
+
+pub in_map : {X Y : Type 0} (f : X → Y) (xs : List X) (k : ℕ) (x : X) → slice_get xs k ≡ Some x → slice_get (map f xs) k ≡ Some (f x)
+in_map f [] k x got = absurd (none-some x got)
+in_map f (y ∷ xs) zero x got = (let same : y ≡ x = cc in ap (λ z. Some (f z)) same)
+in_map f (y ∷ xs) (suc k) x got = in_map f xs k x got
+
+pub from_map : {X Y : Type 0} (f : X → Y) (xs : List X) (k : ℕ) (y : Y) → slice_get (map f xs) k ≡ Some y → (x : X) × (slice_get xs k ≡ Some x) × (f x ≡ y)
+from_map f [] k y got = absurd (none-some y got)
+from_map f (x ∷ xs) zero y got = (x, refl, (let same : f x ≡ y = cc in same))
+from_map f (x ∷ xs) (suc k) y got = from_map f xs k y got
+
+same_some : {X : Type 0} (x y : X) → Some x ≡ Some y → x ≡ y
+same_some x y e = cc
+
+-- the views of new harts, in the order of their numbers
+pub new_length : (n : ℕ) → length (new_harts n) ≡ n
+new_length zero = refl
+new_length (suc n) = pushed (new_harts n) (first_hart n) ∙ ap suc (new_length n)
+  where
+    pushed : (xs : List HartView) (x : HartView) → length (xs ++ x ∷ []) ≡ suc (length xs)
+    pushed [] x = refl
+    pushed (y ∷ xs) x = ap suc (pushed xs x)
+
+last_or_before : {X : Type 0} (xs : List X) (last : X) (k : ℕ) (x : X) → slice_get (xs ++ last ∷ []) k ≡ Some x → (slice_get xs k ≡ Some x) ⊎ ((k ≡ length xs) × (last ≡ x))
+last_or_before [] last zero x got = inr (refl, same_some last x got)
+last_or_before [] last (suc k) x got = absurd (none-some x got)
+last_or_before (y ∷ xs) last zero x got = inl got
+last_or_before (y ∷ xs) last (suc k) x got = ⊎_elim
+    (λ (before : slice_get xs k ≡ Some x). inl before)
+    (λ (here : (k ≡ length xs) × (last ≡ x)). inr (ap suc here.0, here.1))
+    (last_or_before xs last k x got)
+
+pub new_hart_at : (n k : ℕ) (j : HartView) → slice_get (new_harts n) k ≡ Some j → j ≡ first_hart k
+new_hart_at zero k j got = absurd (none-some j got)
+new_hart_at (suc n) k j got = ⊎_elim
+    (λ (before : slice_get (new_harts n) k ≡ Some j). new_hart_at n k j before)
+    (λ (here : (k ≡ length (new_harts n)) × (first_hart n ≡ j)). sym here.1 ∙ ap first_hart (sym (here.0 ∙ new_length n)))
+    (last_or_before (new_harts n) (first_hart n) k j got)
+
+-- each hart but the first has ended, where each place but the first has
+pub others_ended : {X : Type 0} (hart : X → HartState) (old new : List X) → length new ≡ length old → ((i : ℕ) (d : X) → 0 < i → i < length old → IsSome (hart (get_or new i d)).«end»)
+    → (k : ℕ) (d : X) → k < length (drop 1 new) → IsSome (hart (get_or (drop 1 new) k d)).«end»
+others_ended hart old [] long each k d low = absurd (let no : k < 0 = low in omega (arith, no))
+others_ended hart old (x ∷ new) long each k d low = each (suc k) d (omega arith) (let less : k < length new = low in omega (arith, less, long))
+
+-- there are as many as the machine has
+pub count_of : {X : Type 0} (seat : X → HartView) (hart : X → HartState) (blocks : X → BlockTable) → HartsHaveEntries → (w : Setting) (setup : Setup) (past : List Event) (started : Started) (entry : HartEntry) (old : List X)
+    → SetsOff w setup past started entry (map seat old) (map hart old) (map blocks old) → length old ≡ w.machine.harts
+count_of seat hart blocks have w setup past started entry old off =
+    sym (length-map old seat) ∙ ap length off.are.seats_are ∙ length-map (new_harts (length started.entries)) (hears past) ∙ new_length (length started.entries)
+    ∙ have w setup past started off.starts ∙ sym (machine_harts w setup past started off.starts)
+
+-- ---- each hart, as it was set off
+
+module _ {X : Type 0} (seat : X → HartView) (hart : X → HartState) (blocks : X → BlockTable) (legal : StartsLegal) (owners : StartHasOwners) (fits : StartFits) (have : HartsHaveEntries)
+    (w : Setting) (setup : Setup) (past : List Event) (started : Started) (entry : HartEntry) (old : List X)
+    (off : SetsOff w setup past started entry (map seat old) (map hart old) (map blocks old)) where
+  pub count : length old ≡ w.machine.harts
+  count = count_of seat hart blocks have w setup past started entry old off
+
+  module _ (h : ℕ) (x : X) (at : slice_get old h ≡ Some x) where
+    pub low : h < w.machine.harts
+    low = (let within = slice_get_within old h x at in let all = count in omega (arith, within, all))
+
+    seat_is : seat x ≡ told_hart past h
+    seat_is =
+        let got = from_map (hears past) (new_harts (length started.entries)) h (seat x) (subst (λ (js : List HartView). slice_get js h ≡ Some (seat x)) off.are.seats_are (in_map seat old h x at)) in
+        sym got.2 ∙ ap (hears past) (new_hart_at (length started.entries) h got.0 got.1)
+
+    pub hart_at : slice_get (starting_harts setup.fuel started.functions started.entries) h ≡ Some (hart x)
+    hart_at = subst (λ (bs : List HartState). slice_get bs h ≡ Some (hart x)) off.are.harts_are (in_map hart old h x at)
+
+    none_kept : KeepsNone (blocks x)
+    none_kept = off.are.keep_none (blocks x) (at_in (map blocks old) h (blocks x) (in_map blocks old h x at))
+
+    pub is_ready : IsReady w past (seat x) (hart x) (blocks x)
+    is_ready = subst (λ (j : HartView). IsReady w past j (hart x) (blocks x)) (sym seat_is) (ready w setup past started off.starts legal owners fits h (hart x) low hart_at (blocks x) none_kept)
+
+    pub number_is : (seat x).number ≡ h
+    number_is = ap (λ (j : HartView). j.number) seat_is
+
+    abbrev pub start_at : HartStart
+    start_at = start w setup past started off.starts legal owners fits h (hart x) low hart_at
+
+    pub by : RunsBy w (length past) (hart x) [] (seat x) (hart x)
+    by = subst (λ (j : HartView). RunsBy w (length past) (hart x) [] j (hart x)) (sym seat_is) (runs_by w setup past started off.starts legal owners fits h (hart x) low hart_at)
+
+    pub is_new : IsNewAt start_at (seat x)
+    is_new = subst (IsNewAt start_at) (sym seat_is) (new_at w setup past started off.starts legal owners fits h (hart x) low hart_at)
+
+    pub from_low : start_at.from ≤ length (seat x).heard
+    from_low = subst (λ (j : HartView). length past ≤ length j.heard) (sym seat_is) (omega arith)
+
+  pub all_ready : (k : ℕ) (d : X) → k < length old → IsReady w past (seat (get_or old k d)) (hart (get_or old k d)) (blocks (get_or old k d))
+  all_ready k d low =
+      let x = element_at old k low in
+      let same : x.0 ≡ get_or old k d = sym (get_or_from_slice_get old k x.0 d x.1) in
+      subst (λ (y : X). IsReady w past (seat y) (hart y) (blocks y)) same (is_ready k x.0 x.1)
+
+  pub zeroth : (d : X) → 0 < length old → (seat (get_or old 0 d)).number ≡ 0
+  zeroth d low =
+      let x = element_at old 0 low in
+      subst (λ (y : X). (seat y).number ≡ 0) (sym (get_or_from_slice_get old 0 x.0 d x.1)) (number_is 0 x.0 x.1)
+
+  pub at_start : (d : X) → 0 < length old → IsAtStart (hart (get_or old 0 d))
+  at_start d low =
+      let x = element_at old 0 low in
+      let new = all_are setup.fuel 0 started.functions started.entries (hart x.0) (hart_at 0 x.0 x.1) in
+      subst (λ (y : X). IsAtStart (hart y)) (sym (get_or_from_slice_get old 0 x.0 d x.1)) (record { runs = new.runs; no_finals = new.no_finals })
+
+  -- ---- and once it has run
+
+  module _ (others_whole : OthersRunWhole) (new : List X) (long : length new ≡ length old) (first : HartEnd) (ends : List HartEnd)
+      (first_ran : (d : X) (begins : HartStart) (begun : List TrailItem) → begins.registers ≡ starting_registers entry → begins.from ≤ length (seat (get_or old 0 d)).heard
+      → IsNewAt begins (seat (get_or old 0 d)) → RunsBy w begins.from begins.hart begun (seat (get_or old 0 d)) (hart (get_or old 0 d)) → RanWhole w begins begun (seat (get_or new 0 d)) first)
+      (through : (d : X) → IsThrough w past (seat (get_or old 0 d)) (seat (get_or new 0 d)))
+      (others_ran : (i : ℕ) (d : X) → 0 < i → i < length old → RunsToEnd w past (seat (get_or old i d)) (seat (get_or new i d)) (hart (get_or old i d)) (hart (get_or new i d)) (blocks (get_or new i d)))
+      (fronts : (i : ℕ) (d : X) → 0 < i → i < length old → BeginsWith (seat (get_or new 0 d)).heard (seat (get_or new i d)).heard)
+      (ends_are : map Some ends ≡ Some first ∷ map (λ x. (hart x).«end») (drop 1 new)) where
+    -- the hart of a place, before and behind
+    old_at : (h : ℕ) (y : X) → slice_get new h ≡ Some y → (x : X) × (slice_get old h ≡ Some x)
+    old_at h y at = element_at old h (let within = slice_get_within new h y at in omega (arith, within, long))
+
+    -- so it is of the first
+    through_at : (x y : X) → slice_get old 0 ≡ Some x → slice_get new 0 ≡ Some y → IsThrough w past (seat x) (seat y)
+    through_at x y at now =
+        subst (λ (z : X). IsThrough w past (seat z) (seat y)) (get_or_from_slice_get old 0 x x at)
+        (subst (λ (z : X). IsThrough w past (seat (get_or old 0 x)) (seat z)) (get_or_from_slice_get new 0 y x now) (through x))
+
+    ran_at : (h : ℕ) (x y : X) → 0 < h → slice_get old h ≡ Some x → slice_get new h ≡ Some y → RunsToEnd w past (seat x) (seat y) (hart x) (hart y) (blocks y)
+    ran_at h x y behind at now =
+        subst (λ (z : X). RunsToEnd w past (seat z) (seat y) (hart z) (hart y) (blocks y)) (get_or_from_slice_get old h x x at)
+        (subst (λ (z : X). RunsToEnd w past (seat (get_or old h x)) (seat z) (hart (get_or old h x)) (hart z) (blocks z)) (get_or_from_slice_get new h y x now)
+        (others_ran h x behind (slice_get_within old h x at)))
+
+    whole_first : (x y : X) → slice_get new 0 ≡ Some y → (at : slice_get old 0 ≡ Some x) → RanWhole w (start_at 0 x at) [] (seat y) first
+    whole_first x y now at =
+        let same = get_or_from_slice_get old 0 x x at in
+        let registers : (start_at 0 x at).registers ≡ starting_registers entry =
+        ap starting_registers (same_some (entry_of setup.fuel 0 started.functions started.entries (hart x) (hart_at 0 x at)).0 entry
+        (sym (entry_of setup.fuel 0 started.functions started.entries (hart x) (hart_at 0 x at)).1 ∙ off.entry_is)) in
+        subst (λ (z : X). RanWhole w (start_at 0 x at) [] (seat z) first) (get_or_from_slice_get new 0 y x now)
+        (first_ran x (start_at 0 x at) [] registers
+        (subst (λ (z : X). (start_at 0 x at).from ≤ length (seat z).heard) (sym same) (from_low 0 x at))
+        (subst (λ (z : X). IsNewAt (start_at 0 x at) (seat z)) (sym same) (is_new 0 x at))
+        (subst (λ (z : X). RunsBy w (start_at 0 x at).from (start_at 0 x at).hart [] (seat z) (hart z)) (sym same) (by 0 x at)))
+
+    whole_other : (h : ℕ) (x y : X) (reason : HartEnd) → 0 < h → (at : slice_get old h ≡ Some x) → slice_get new h ≡ Some y → (hart y).«end» ≡ Some reason
+        → RanWhole w (start_at h x at) [] (seat y) reason
+    whole_other h x y reason behind at now ended =
+        let ran = ran_at h x y behind at now in
+        others_whole w (start_at h x at) [] (seat y) (hart y) reason (ran.runs.proceeds.on (length past) (hart x) [] (by h x at)) ended
+        (λ zeroth. (let number : (seat y).number ≡ h = ran.runs.proceeds.same ∙ number_is h x at in omega (arith, zeroth, number, behind)))
+
+    -- how each has ended
+    end_of_other : (h : ℕ) (y : X) (reason : HartEnd) → slice_get new (suc h) ≡ Some y → slice_get ends (suc h) ≡ Some reason → (hart y).«end» ≡ Some reason
+    end_of_other h y reason now ended =
+        let got : slice_get (map (λ x. (hart x).«end») (drop 1 new)) h ≡ Some (Some reason) =
+        subst (λ (es : List (Option HartEnd)). slice_get es (suc h) ≡ Some (Some reason)) ends_are (in_map (λ r. Some r) ends (suc h) reason ended) in
+        let there : slice_get (map (λ x. (hart x).«end») (drop 1 new)) h ≡ Some (hart y).«end» = in_map (λ x. (hart x).«end») (drop 1 new) h y (behind_first new h y now) in
+        same_some (hart y).«end» (Some reason) (sym there ∙ got)
+      where
+        behind_first : (xs : List X) (k : ℕ) (x : X) → slice_get xs (suc k) ≡ Some x → slice_get (drop 1 xs) k ≡ Some x
+        behind_first [] k x got = absurd (none-some x got)
+        behind_first (z ∷ xs) k x got = got
+
+    first_end : (reason : HartEnd) → slice_get ends 0 ≡ Some reason → first ≡ reason
+    first_end reason ended =
+        let got : slice_get (Some first ∷ map (λ x. (hart x).«end») (drop 1 new)) 0 ≡ Some (Some reason) =
+        subst (λ (es : List (Option HartEnd)). slice_get es 0 ≡ Some (Some reason)) ends_are (in_map (λ r. Some r) ends 0 reason ended) in
+        same_some first reason (same_some (Some first) (Some reason) got)
+
+    way_of : (h : ℕ) (x y : X) (reason : HartEnd) → (at : slice_get old h ≡ Some x) → (seat y).number ≡ h → RanWhole w (start_at h x at) [] (seat y) reason
+        → WayOf w setup past started h reason (seat y)
+    way_of h x y reason at number whole = record {
+      start = start_at h x at;
+      sets_off = start_is w setup past started off.starts legal owners fits h (hart x) (low h x at) (hart_at h x at);
+      way = subst (λ (trail : List TrailItem). LeavesToItsEnd w (seat y).heard (start_at h x at) h reason trail) (sym whole.trail)
+          (subst (λ (n : ℕ). LeavesToItsEnd w (seat y).heard (start_at h x at) n reason whole.own) number whole.way);
+    }
+
+    number_at : (h : ℕ) (x y : X) → slice_get old h ≡ Some x → slice_get new h ≡ Some y → (seat y).number ≡ h
+    number_at zero x y at now = (through_at x y at now).same ∙ number_is 0 x at
+    number_at (suc h) x y at now = (ran_at (suc h) x y (omega arith) at now).runs.proceeds.same ∙ number_is (suc h) x at
+
+    heard_at : (h : ℕ) (x y : X) → slice_get old h ≡ Some x → slice_get new h ≡ Some y → HasHeard w past (seat y)
+    heard_at zero x y at now = (through_at x y at now).heard
+    heard_at (suc h) x y at now = (ran_at (suc h) x y (omega arith) at now).runs.between.heard
+
+    some_end : (e : Option HartEnd) → IsSome e → (reason : HartEnd) × (e ≡ Some reason)
+    some_end (Some reason) is = (reason, refl)
+    some_end None is = absurd (let no : false ≡ true = is in cc)
+
+    calm_at : (h : ℕ) (x y : X) → slice_get old h ≡ Some x → slice_get new h ≡ Some y → (seat y).lane.calling ≡ false
+    calm_at zero x y at now = (through_at x y at now).calm
+    calm_at (suc h) x y at now =
+        let ran = ran_at (suc h) x y (omega arith) at now in
+        let ended = some_end (hart y).«end» ran.ended in
+        ran.runs.calm ended.0 ended.1
+
+    ways_at : (h : ℕ) (x y : X) (reason : HartEnd) → slice_get old h ≡ Some x → slice_get new h ≡ Some y → slice_get ends h ≡ Some reason → WayOf w setup past started h reason (seat y)
+    ways_at zero x y reason at now ended =
+        way_of 0 x y reason at (number_at 0 x y at now) (subst (RanWhole w (start_at 0 x at) [] (seat y)) (first_end reason ended) (whole_first x y now at))
+    ways_at (suc h) x y reason at now ended =
+        way_of (suc h) x y reason at (number_at (suc h) x y at now) (whole_other (suc h) x y reason (omega arith) at now (end_of_other h y reason now ended))
+
+    pub have_run : HaveRun w setup past started ends (map seat new)
+    have_run = record {
+      all = length-map new seat ∙ long ∙ count;
+      all_end = counted ∙ long ∙ count;
+      numbers = λ h j got. let y = from_map seat new h j got in let x = old_at h y.0 y.1 in subst (λ (i : HartView). i.number ≡ h) y.2 (number_at h x.0 y.0 x.1 y.1);
+      heard = λ k d low. each_seat (HasHeard w past) (λ h y at. let x = old_at h y at in heard_at h x.0 y x.1 at) k d low;
+      calling = λ k d low. each_seat (λ j. j.lane.calling ≡ false) (λ h y at. let x = old_at h y at in calm_at h x.0 y x.1 at) k d low;
+      ways = λ h reason j ended got. let y = from_map seat new h j got in let x = old_at h y.0 y.1 in
+          subst (WayOf w setup past started h reason) y.2 (ways_at h x.0 y.0 reason x.1 y.1 ended);
+      fronts = λ one h j got_one behind got.
+          let y = from_map seat new 0 one got_one in
+          let z = from_map seat new h j got in
+          let within = slice_get_within old h (old_at h z.0 z.1).0 (old_at h z.0 z.1).1 in
+          let front : BeginsWith (seat y.0).heard (seat z.0).heard =
+          subst (λ (v : X). BeginsWith (seat y.0).heard (seat v).heard) (get_or_from_slice_get new h z.0 y.0 z.1)
+          (subst (λ (v : X). BeginsWith (seat v).heard (seat (get_or new h y.0)).heard) (get_or_from_slice_get new 0 y.0 y.0 y.1) (fronts h y.0 behind within)) in
+          subst (λ (i : HartView). BeginsWith one.heard i.heard) z.2 (subst (λ (i : HartView). BeginsWith i.heard (seat z.0).heard) y.2 front);
+    }
+      where
+        one_less : (xs : List X) → 0 < length xs → suc (length (drop 1 xs)) ≡ length xs
+        one_less [] some = absurd (let no : 0 < 0 = some in omega (arith, no))
+        one_less (z ∷ xs) some = refl
+
+        counted : length ends ≡ length new
+        counted =
+            let harts : w.machine.harts ≡ harts_of setup = machine_harts w setup past started off.starts in
+            let all = count in
+            sym (length-map ends (λ r. Some r)) ∙ ap length ends_are ∙ ap suc (length-map (drop 1 new) (λ x. (hart x).«end»)) ∙ one_less new (omega (arith, long, all, harts))
+
+        each_seat : (P : HartView → Type 0) → ((h : ℕ) (y : X) → slice_get new h ≡ Some y → P (seat y)) → (k : ℕ) (d : HartView) → k < length (map seat new) → P (get_or (map seat new) k d)
+        each_seat P holds k d low =
+            let y = element_at new k (let many = length-map new seat in omega (arith, low, many)) in
+            subst P (sym (get_or_from_slice_get (map seat new) k (seat y.0) d (in_map seat new k y.0 y.1))) (holds k y.0 y.1)

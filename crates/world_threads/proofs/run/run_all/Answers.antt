@@ -1,0 +1,41 @@
+use Rattle.std.proofs.Common.{◌<◌, ℕ, length, ap, arith}
+use Rattle.history_calls.specs.Startup.{harts_of}
+use Rattle.world_threads.proofs.Started.{machine_harts}
+use Rattle.world_threads.proofs.Ways.{all_ready, at_start, count, have_run, others_ended, zeroth}
+use Rattle.world_threads.proofs.run.run_all.Goals as goal
+
+pub run_harts-first-requires-clause-ready : goal.run_harts-first-requires-clause-ready
+run_harts-first-requires-clause-ready g c κs within =
+    let off = c.requires.set_off in
+    all_ready (λ r. r.seat) (λ r. r.hart.hart) (λ r. r.blocks) c.served_calls_are_legal.ensures.starts c.events_have_owners.ensures.start c.harts_fit.ensures.start c.served_calls_are_legal.ensures.entries
+    g.J.Opening.setting off.0 g.J.Opening.journal off.1 c.args.entry c.args.runs.now off.2
+
+pub run_harts-first-requires-clause-zeroth : goal.run_harts-first-requires-clause-zeroth
+run_harts-first-requires-clause-zeroth g c κs within = λ d.
+    let off = c.requires.set_off in
+    zeroth (λ r. r.seat) (λ r. r.hart.hart) (λ r. r.blocks) c.served_calls_are_legal.ensures.starts c.events_have_owners.ensures.start c.harts_fit.ensures.start c.served_calls_are_legal.ensures.entries
+    g.J.Opening.setting off.0 g.J.Opening.journal off.1 c.args.entry c.args.runs.now off.2 d
+    (let all = count (λ r. r.seat) (λ r. r.hart.hart) (λ r. r.blocks) c.served_calls_are_legal.ensures.starts c.events_have_owners.ensures.start c.harts_fit.ensures.start c.served_calls_are_legal.ensures.entries
+    g.J.Opening.setting off.0 g.J.Opening.journal off.1 c.args.entry c.args.runs.now off.2 in
+    let many = machine_harts g.J.Opening.setting off.0 g.J.Opening.journal off.1 off.2.starts in
+    omega (arith, all, many))
+
+pub run_harts-first-requires-clause-starts : goal.run_harts-first-requires-clause-starts
+run_harts-first-requires-clause-starts g c κs within = λ d.
+    let off = c.requires.set_off in
+    at_start (λ r. r.seat) (λ r. r.hart.hart) (λ r. r.blocks) c.served_calls_are_legal.ensures.starts c.events_have_owners.ensures.start c.harts_fit.ensures.start c.served_calls_are_legal.ensures.entries
+    g.J.Opening.setting off.0 g.J.Opening.journal off.1 c.args.entry c.args.runs.now off.2 d
+    (let all = count (λ r. r.seat) (λ r. r.hart.hart) (λ r. r.blocks) c.served_calls_are_legal.ensures.starts c.events_have_owners.ensures.start c.harts_fit.ensures.start c.served_calls_are_legal.ensures.entries
+    g.J.Opening.setting off.0 g.J.Opening.journal off.1 c.args.entry c.args.runs.now off.2 in
+    let many = machine_harts g.J.Opening.setting off.0 g.J.Opening.journal off.1 off.2.starts in
+    omega (arith, all, many))
+
+pub ends_of-requires-clause-over : goal.ends_of-requires-clause-over
+ends_of-requires-clause-over g c =
+    others_ended (λ r. r.hart.hart) c.args.runs.now c.run_harts-first.new.runs c.run_harts-first.auto.runs (λ i d behind low. (c.run_harts-first.ensures.others i d behind low).ended)
+
+pub returns : goal.returns
+returns g c = λ setup started off.
+    have_run (λ r. r.seat) (λ r. r.hart.hart) (λ r. r.blocks) c.served_calls_are_legal.ensures.starts c.events_have_owners.ensures.start c.harts_fit.ensures.start c.served_calls_are_legal.ensures.entries
+    g.J.Opening.setting setup g.J.Opening.journal started c.args.entry c.args.runs.now off c.ways_are_whole.ensures.others c.run_harts-first.new.runs c.run_harts-first.auto.runs c.run_harts-first.result c.ends_of.result
+    c.run_harts-first.ensures.first c.run_harts-first.ensures.through c.run_harts-first.ensures.others c.run_harts-first.ensures.fronts c.ends_of.ensures

@@ -1,0 +1,13 @@
+//! Runs on threads.
+//!
+//! [`run_program`] starts a run, puts what startup brings into memory that harts share, runs each hart on a
+//! thread of its own beside the linker's keeper, and joins them. What is left is the journal, how each hart
+//! ended, and what each did, turn after turn. `specs/Threaded.antt` says what these are.
+#![tactic(auto)]
+
+mod ending;
+mod rising;
+mod run;
+mod setting_up;
+
+pub use run::{Ran, run_program};
