@@ -19,6 +19,7 @@ use Rattle.cli_words.specs.declared.command.Command.TheVariants as commands
 use Rattle.ldso_cli.proofs.Told.{never_rises}
 use Rattle.ldso_cli.specs.Asm.{SourceRead, SourceComes, ReadsSource, GivesCause}
 use Rattle.ldso_cli.specs.Bind.{BindComes, cause_of, namespace_of}
+use Rattle.cli_words.specs.declared.command.Run.{Run}
 use Rattle.cli_words.specs.declared.command.Turns.{Turns}
 use Rattle.ldso_cli.specs.Check.{CheckGives, IsUnread, ReadsTrace, TraceComes}
 use Rattle.ldso_cli.specs.Command.{WordsAnswer, CommandAnswers, Misses}
@@ -27,7 +28,8 @@ use Rattle.ldso_cli.specs.End.{bare}
 use Rattle.ldso_cli.specs.Ends.{Handing, IsCaused, IsUnanswered, Written}
 use Rattle.ldso_cli.specs.Generate.{GenComes, set_cause}
 use Rattle.ldso_cli.specs.Outside.{LibraryAt, SinkAt}
-use Rattle.ldso_cli.specs.Played.{StartMisses, run_cause}
+use Rattle.ldso_cli.specs.Played.{run_cause}
+use Rattle.ldso_cli.specs.Threads.{RunComes}
 use Rattle.ldso_cli.specs.Turns.{TurnsComes}
 use Rattle.ldso_cli.specs.declared.answer.Answer.{Answer}
 use Rattle.ldso_cli.specs.declared.outcome.Cause.{Cause}
@@ -165,7 +167,7 @@ check_own check before after cause text SourceRead.missing reads gives = of_unre
 check_own check before after cause text SourceRead.failed reads gives = of_unread check before after (dl.ReadFault check.trace) cause text gives (λ path e. reads.holds)
     (λ name e. (let d : dl.ReadFault check.trace ≡ dl.MissingLibrary name = e in absurd cc))
 
--- ---- turns and gen, by how their runs ended
+-- ---- turns, run and gen, by how their runs ended
 
 abbrev not_started : DlFault → Result RunEnd DlFault
 not_started fault = Err fault
@@ -173,11 +175,11 @@ not_started fault = Err fault
 same_fault : (f g : DlFault) → causes.Refused f ≡ causes.Refused g → f ≡ g
 same_fault f g e = cc
 
-turns_ended : (turns : Turns) (before after : LibraryAt) (ended : Result RunEnd DlFault) → ((path : List ℕ) → ended ≡ Err (dl.ReadFault path) → Rises before.faults after.faults)
-    → ((name : List ℕ) → ended ≡ Err (dl.MissingLibrary name) → StartMisses turns.setup before after name) → IsOwn (commands.Turns turns) before after (run_cause ended)
-turns_ended turns before after (Ok run_end) unread missed =
+run_ended : (command : Command) (before after : LibraryAt) (ended : Result RunEnd DlFault) → ((path : List ℕ) → ended ≡ Err (dl.ReadFault path) → Rises before.faults after.faults)
+    → ((name : List ℕ) → ended ≡ Err (dl.MissingLibrary name) → Misses command before after name) → IsOwn command before after (run_cause ended)
+run_ended command before after (Ok run_end) unread missed =
     record { no_usage = λ e. cc e; no_write = λ e. cc e; read_fault = λ path e. absurd (cc e); missing = λ name e. absurd (cc e) }
-turns_ended turns before after (Err fault) unread missed = record {
+run_ended command before after (Err fault) unread missed = record {
   no_usage = λ e. cc e;
   no_write = λ e. cc e;
   read_fault = λ path e. unread path (ap not_started (same_fault fault (dl.ReadFault path) e));
@@ -187,7 +189,12 @@ turns_ended turns before after (Err fault) unread missed = record {
 turns_own : (turns : Turns) (before after : LibraryAt) (end : End) (text : List ℕ) → TurnsComes turns before after end text → IsOwn (commands.Turns turns) before after end.cause
 turns_own turns before after end text comes =
     let P : Cause → Type 0 = λ c. IsOwn (commands.Turns turns) before after c in
-    subst P (sym (ap (λ (e : End). e.cause) comes.end_is)) (turns_ended turns before after comes.ended comes.plays.read_fault comes.plays.missing)
+    subst P (sym (ap (λ (e : End). e.cause) comes.end_is)) (run_ended (commands.Turns turns) before after comes.ended comes.plays.read_fault comes.plays.missing)
+
+threads_own : (run : Run) (before after : LibraryAt) (end : End) (text : List ℕ) → RunComes run before after end text → IsOwn (commands.Run run) before after end.cause
+threads_own run before after end text comes =
+    let P : Cause → Type 0 = λ c. IsOwn (commands.Run run) before after c in
+    subst P (sym (ap (λ (e : End). e.cause) comes.end_is)) (run_ended (commands.Run run) before after comes.ended comes.run.comes.read_fault comes.run.comes.missing)
 
 gen_ended : (number : ℕ) (before after : LibraryAt) (ended : Result RunEnd DlFault) → ((path : List ℕ) → ended ≡ Err (dl.ReadFault path) → ⊥)
     → IsOwn (commands.Generate number) before after (set_cause ended)
@@ -219,7 +226,7 @@ own_end (commands.Assemble path) before after end text over =
     let comes = over.holds.comes in
     at_end (commands.Assemble path) before after comes.cause end comes.end_is (asm_own path before after (file_at over.files path) comes.by.read comes.cause comes.by.reads comes.by.gives)
 own_end (commands.Turns turns) before after end text comes = turns_own turns before after end text comes
-own_end (commands.Run run) before after end text none = absurd none
+own_end (commands.Run run) before after end text comes = threads_own run before after end text comes
 own_end (commands.Check check) before after end text comes = at_end (commands.Check check) before after comes.cause end comes.end_is (check_own check before after comes.cause text comes.read comes.reads comes.gives)
 own_end (commands.Generate number) before after end text comes = gen_own number before after end text comes
 

@@ -21,10 +21,11 @@ use Rattle.load_walk.specs.Plan.{Lacks}
 use Rattle.trace_text.specs.declared.run_texts.record.RunRecord.{RunRecord}
 use Rattle.trace_text.specs.declared.run_texts.run_end.RunEnd.{RunEnd}
 use Rattle.trace_check.specs.Laws.{OneVerdict}
+use Rattle.word_rule.specs.declared.view.KeeperView.{KeeperView}
 use Rattle.world_turns.specs.declared.schedules.schedule.TurnItem.{TurnItem}
 use Rattle.ldso_cli.proofs.Assembling.{NeverBoth}
 use Rattle.ldso_cli.proofs.Decided.{NotBoth, settled}
-use Rattle.ldso_cli.proofs.Kept.{has_run}
+use Rattle.ldso_cli.proofs.Kept.{has_come, has_run}
 use Rattle.ldso_cli.proofs.Same.{OneWalk, one_list}
 use Rattle.ldso_cli.proofs.Told.{never_rises}
 use Rattle.ldso_cli.proofs.Traces.{check_done}
@@ -34,11 +35,12 @@ use Rattle.ldso_cli.specs.Bind.{BindComes, IsLoaded, IsNotLoaded, cause_of, name
 use Rattle.ldso_cli.specs.Command.{CommandAnswers, IsAnswer, OverFiles, ReadsWell}
 use Rattle.ldso_cli.specs.Complete.{AreFilesOf, CanBeAssembled, CanBeBound, CanBeDumped, FilesSuffice, IsDone, RanToItsEnd}
 use Rattle.ldso_cli.specs.Dump.{DumpComes, ReadsAs, dump_cause}
-use Rattle.ldso_cli.specs.End.{kept_end}
+use Rattle.ldso_cli.specs.End.{kept_end, told_end}
 use Rattle.ldso_cli.specs.Generate.{set_at, set_cause, set_setup}
 use Rattle.ldso_cli.specs.Laws.{AnswersComplete}
 use Rattle.ldso_cli.specs.Outside.{LibraryAt}
-use Rattle.ldso_cli.specs.Played.{IsPlayed, run_cause}
+use Rattle.ldso_cli.specs.Played.{ComesToEnd, IsPlayed, run_cause}
+use Rattle.ldso_cli.specs.Threads.{RunsOnThreads}
 use Rattle.ldso_cli.specs.declared.outcome.Cause.{Cause}
 use Rattle.ldso_cli.specs.declared.outcome.Cause.TheVariants as causes
 use Rattle.ldso_cli.specs.declared.outcome.End.{End}
@@ -128,6 +130,20 @@ module _ (laws : Laws) where
         cause = ap (λ (end : End). end.cause) is ∙ ap of_ended run.leaves.ended_is;
       }
 
+  threads_to_end : (setup : Setup) (before after : LibraryAt) (ended : Result RunEnd DlFault) (left : RunRecord) (trails : Option KeeperView) (own : End) (files : List File)
+      → before.files ≡ Some files → (Rises before.faults after.faults → ⊥) → CanStart (run_of setup (Some files)) setup
+      → ComesToEnd (RunsOnThreads setup before.files ended left trails) setup before after ended left → own ≡ told_end (run_cause ended) left trails → RanToItsEnd causes.Ran own
+  threads_to_end setup before after ended left trails own files told still may comes is =
+      let may_start : CanStart (run_of setup before.files) setup = subst (λ (fs : Option (List File)). CanStart (run_of setup fs) setup) (sym told) may in
+      let run = has_come laws.starts (RunsOnThreads setup before.files ended left trails) setup before after files ended left told still may_start comes in
+      record {
+        run_end = run.run_end;
+        left = left;
+        kept = ap (λ (end : End). end.kept) is;
+        decides = run.decides;
+        cause = ap (λ (end : End). end.cause) is ∙ ap run_cause run.ended_is;
+      }
+
   -- ---- all commands
 
   over_told : (command : Command) (before after : LibraryAt) (own : End) (text : List ℕ) (files : List File) → before.files ≡ Some files
@@ -150,7 +166,8 @@ module _ (laws : Laws) where
       ap (λ (end : End). end.cause) comes.end_is ∙ asm_done path before after files comes.cause can (well refl) comes.by
   done (commands.Turns turns) before after own text files comes told well can =
       ran_to_end turns.setup comes.items before after comes.ended comes.left own files run_cause told (well refl) can comes.plays comes.end_is
-  done (commands.Run run) before after own text files none told well can = absurd none
+  done (commands.Run run) before after own text files comes told well can =
+      threads_to_end run.setup before after comes.ended comes.left comes.trails own files told (well refl) can comes.run.comes comes.end_is
   done (commands.Check check) before after own text files comes told well can =
       ap (λ (end : End). end.cause) comes.end_is ∙ check_done laws.one_verdict check files can before after own text told (well refl) comes
   done (commands.Generate number) before after own text files comes are well can =

@@ -27,15 +27,17 @@ use Rattle.trace_text.specs.declared.run_texts.run_end.RunEnd.{RunEnd}
 use Rattle.trace_text.specs.declared.run_texts.run_end.RunEnd.TheVariants.{Ended, Exited}
 use Rattle.world_turns.specs.declared.schedules.schedule.TurnItem.{TurnItem}
 use Rattle.world_turns.specs.Throughout.{RunsAreSound}
+use Rattle.word_rule.specs.declared.view.KeeperView.{KeeperView}
 use Rattle.world_laws.specs.WorldWhole.Laws.{RunsAreWhole}
 use Rattle.ldso_cli.proofs.Turning.{Accepts}
 use Rattle.ldso_cli.specs.Command.{CommandAnswers}
-use Rattle.ldso_cli.specs.End.{bare, kept_end}
+use Rattle.ldso_cli.specs.End.{bare, told_end}
 use Rattle.ldso_cli.specs.Generate.{set_at, set_cause, set_setup}
-use Rattle.ldso_cli.specs.Headline.{HasRun, Headline, IsHistory, IsKept}
+use Rattle.ldso_cli.specs.Headline.{HasRun, HasRunOnThreads, Headline, IsHistory, IsHistoryOfThreads, IsKept}
 use Rattle.ldso_cli.specs.Laws.{AnswersAreHistories}
 use Rattle.ldso_cli.specs.Outside.{LibraryAt}
-use Rattle.ldso_cli.specs.Played.{IsNotRun, IsPlayed, IsRun, run_cause}
+use Rattle.ldso_cli.specs.Played.{ComesToEnd, IsNotRun, IsPlayed, IsRun, run_cause}
+use Rattle.ldso_cli.specs.Threads.{RunsOnThreads}
 use Rattle.ldso_cli.specs.declared.outcome.Cause.{Cause}
 use Rattle.ldso_cli.specs.declared.outcome.Cause.TheVariants as causes
 use Rattle.ldso_cli.specs.declared.outcome.End.{End}
@@ -64,22 +66,27 @@ read_fault _ e = absurd (true≢false (sym e))
 abbrev failed : DlFault → Result RunEnd DlFault
 failed fault = Err fault
 
-not_refused : StartsOrFails → (setup : Setup) (items : List TurnItem) (before after : LibraryAt) (files : List File) (ended : Result RunEnd DlFault) (left : RunRecord)
-    → before.files ≡ Some files → (Rises before.faults after.faults → ⊥) → CanStart (run_of setup before.files) setup → IsPlayed setup items before after ended left
+not_refused : StartsOrFails → (Runs : Type 0) (setup : Setup) (before after : LibraryAt) (files : List File) (ended : Result RunEnd DlFault) (left : RunRecord)
+    → before.files ≡ Some files → (Rises before.faults after.faults → ⊥) → CanStart (run_of setup before.files) setup → ComesToEnd Runs setup before after ended left
     → IsNotRun setup before.files ended left → ⊥
-not_refused starts setup items before after files ended left told still may plays p =
+not_refused starts Runs setup before after files ended left told still may comes p =
     let w : Setting = run_of setup before.files in
     let fault = read_fault p.fault (starts w setup files may.root may.added may.ranges may.found p.events may.addresses p.fault told may.opens may.finds p.fails) in
-    still (plays.read_fault fault.path (p.leaves.ended_is ∙ ap failed fault.is))
+    still (comes.read_fault fault.path (p.leaves.ended_is ∙ ap failed fault.is))
 
 -- a program that may start over files that are told runs, where no read fails
+pub has_come : StartsOrFails → (Runs : Type 0) (setup : Setup) (before after : LibraryAt) (files : List File) (ended : Result RunEnd DlFault) (left : RunRecord)
+    → before.files ≡ Some files → (Rises before.faults after.faults → ⊥) → CanStart (run_of setup before.files) setup → ComesToEnd Runs setup before after ended left → Runs
+has_come starts Runs setup before after files ended left told still may comes = ⊎_elim
+    (λ (p : IsNotRun setup before.files ended left). absurd (not_refused starts Runs setup before after files ended left told still may comes p))
+    (λ (p : Runs). p)
+    comes.is
+
 pub has_run : StartsOrFails → (setup : Setup) (items : List TurnItem) (before after : LibraryAt) (files : List File) (ended : Result RunEnd DlFault) (left : RunRecord)
     → before.files ≡ Some files → (Rises before.faults after.faults → ⊥) → CanStart (run_of setup before.files) setup → IsPlayed setup items before after ended left
     → IsRun setup items before.files ended left
-has_run starts setup items before after files ended left told still may plays = ⊎_elim
-    (λ (p : IsNotRun setup before.files ended left). absurd (not_refused starts setup items before after files ended left told still may plays p))
-    (λ (p : IsRun setup items before.files ended left). p)
-    plays.is
+has_run starts setup items before after files ended left told still may plays =
+    has_come starts (IsRun setup items before.files ended left) setup before after files ended left told still may plays
 
 no_end : (run_end : RunEnd) → IsRunEnd [] run_end → ⊥
 no_end (Exited code) all = let e = all.first in absurd cc
@@ -129,6 +136,45 @@ module _ (laws : RunLaws) (setup : Setup) (items : List TurnItem) (before after 
     runs = λ files told still may. some_end setup items before.files ended left (has_run laws.starts setup items before after files ended left told still may plays);
   }
 
+-- ---- a run on threads
+
+-- of one that ran a hart has ended
+threads_end : (setup : Setup) (files : Option (List File)) (ended : Result RunEnd DlFault) (left : RunRecord) (trails : Option KeeperView) → RunsOnThreads setup files ended left trails
+    → left.ends ≡ [] → ⊥
+threads_end setup files ended left trails p none = no_end p.run_end (subst (λ (last : List HartEnd). IsRunEnd last p.run_end) none p.decides)
+
+module _ (laws : RunLaws) (setup : Setup) (before after : LibraryAt) (ended : Result RunEnd DlFault) (left : RunRecord) (trails : Option KeeperView) where
+  abbrev w : Setting
+  w = run_of setup before.files
+
+  abbrev Runs : Type 0
+  Runs = RunsOnThreads setup before.files ended left trails
+
+  pub threads_legal : IsNotRun setup before.files ended left ⊎ Runs → Legal w left.journal.events
+  threads_legal (inl p) = subst (Legal w) (sym p.leaves.journal) (laws.fails w setup p.fault p.events p.fails)
+  threads_legal (inr p) = p.is.legal
+
+  threads_ran : IsNotRun setup before.files ended left ⊎ Runs → (left.ends ≡ [] → ⊥) → HasRunOnThreads setup before.files left trails
+  threads_ran (inl p) some = absurd (some p.leaves.no_ends)
+  threads_ran (inr p) some = record { told = p.told; trails_are = p.trails_are; is = p.is }
+
+  threads_refused : IsNotRun setup before.files ended left ⊎ Runs → left.ends ≡ [] → (fault : DlFault) × FailsToStart w setup fault left.journal.events
+  threads_refused (inl p) none = (p.fault, subst (FailsToStart w setup p.fault) (sym p.leaves.journal) p.fails)
+  threads_refused (inr p) none = absurd (threads_end setup before.files ended left trails p none)
+
+  threads_history : ComesToEnd Runs setup before after ended left → (left.ends ≡ [] → trails ≡ None) → IsHistoryOfThreads setup before after left trails
+  threads_history comes untold = record {
+    is = record {
+      legal = threads_legal comes.is;
+      ran = threads_ran comes.is;
+      refused = threads_refused comes.is;
+      runs = λ files told still may. threads_end setup before.files ended left trails (has_come laws.starts Runs setup before after files ended left told still may comes);
+    };
+    untold = untold;
+  }
+
+-- ---- gen
+
 -- a set's library never fails, however many paths it has missed
 of_set : RunLaws → (files : List File) (misses : ℕ) (ended : Result RunEnd DlFault) (left : RunRecord) → IsPlayed set_setup [] (set_at files 0) (set_at files misses) ended left
     → IsHistory set_setup [] (set_at files 0) (set_at files 0) left
@@ -138,37 +184,34 @@ of_set laws files misses ended left plays =
 
 -- ---- what an answer keeps
 
-nothing_kept : (command : Option Command) (before after : LibraryAt) (own : End) (cause : Cause) → own ≡ bare cause → Headline command before after own.kept
-nothing_kept command before after own cause is =
-    let P : Option RunRecord → Type 0 = λ kept. Headline command before after kept in
-    let e : None ≡ own.kept = sym (ap (λ (end : End). end.kept) is) in
-    subst P e tt
+nothing_kept : (command : Option Command) (before after : LibraryAt) (own : End) (cause : Cause) → own ≡ bare cause → Headline command before after own
+nothing_kept command before after own cause is = subst (Headline command before after) (sym is) refl
 
-kept : (command : Command) (before after : LibraryAt) (own : End) (cause : Cause) (left : RunRecord) → own ≡ kept_end cause left → IsKept command before after left
-    → Headline (Some command) before after own.kept
-kept command before after own cause left is holds =
-    let P : Option RunRecord → Type 0 = λ k. Headline (Some command) before after k in
-    let e : Some left ≡ own.kept = sym (ap (λ (end : End). end.kept) is) in
-    subst P e holds
+kept : (command : Command) (before after : LibraryAt) (own : End) (cause : Cause) (left : RunRecord) (trails : Option KeeperView) → own ≡ told_end cause left trails
+    → IsKept command before after left trails → Headline (Some command) before after own
+kept command before after own cause left trails is holds = subst (Headline (Some command) before after) (sym is) holds
 
-of_command : RunLaws → (command : Command) (before after : LibraryAt) (own : End) (text : List ℕ) → CommandAnswers command before after own text → Headline (Some command) before after own.kept
+of_command : RunLaws → (command : Command) (before after : LibraryAt) (own : End) (text : List ℕ) → CommandAnswers command before after own text → Headline (Some command) before after own
 of_command laws (commands.Bind bind) before after own text over =
     nothing_kept (Some (commands.Bind bind)) before after own over.holds.comes.cause over.holds.comes.end_is
 of_command laws (commands.Dump path) before after own text over =
     nothing_kept (Some (commands.Dump path)) before after own over.holds.comes.cause over.holds.comes.end_is
 of_command laws (commands.Assemble path) before after own text over =
     nothing_kept (Some (commands.Assemble path)) before after own over.holds.comes.cause over.holds.comes.end_is
-of_command laws (commands.Turns turns) before after own text comes = kept (commands.Turns turns) before after own (run_cause comes.ended) comes.left comes.end_is
-    (record { items = comes.items; says = comes.says; is = is_history laws turns.setup comes.items before after comes.ended comes.left comes.plays })
-of_command laws (commands.Run run) before after own text none = absurd none
+of_command laws (commands.Turns turns) before after own text comes = kept (commands.Turns turns) before after own (run_cause comes.ended) comes.left None comes.end_is
+    (record { items = comes.items; says = comes.says; is = is_history laws turns.setup comes.items before after comes.ended comes.left comes.plays }, refl)
+of_command laws (commands.Run run) before after own text comes = kept (commands.Run run) before after own (run_cause comes.ended) comes.left comes.trails comes.end_is
+    (threads_history laws run.setup before after comes.ended comes.left comes.trails comes.run.comes comes.run.untold)
 of_command laws (commands.Check check) before after own text comes =
     nothing_kept (Some (commands.Check check)) before after own comes.cause comes.end_is
-of_command laws (commands.Generate number) before after own text comes = kept (commands.Generate number) before after own (set_cause comes.ended) comes.left comes.end_is
-    (record {
-      files = comes.files;
-      are = comes.are;
-      is = of_set laws comes.files comes.misses comes.ended comes.left comes.plays;
-    })
+of_command laws (commands.Generate number) before after own text comes = kept (commands.Generate number) before after own (set_cause comes.ended) comes.left None comes.end_is (
+  record {
+    files = comes.files;
+    are = comes.are;
+    is = of_set laws comes.files comes.misses comes.ended comes.left comes.plays;
+  },
+  refl,
+)
 
 pub histories : RunLaws → AnswersAreHistories
 histories laws None before after own text usage = nothing_kept None before after own causes.Usage usage.end_is

@@ -9,6 +9,7 @@ pub mod Ending
 pub mod Kept
 pub mod Same
 pub mod Schedules
+pub mod Threaded
 pub mod Told
 pub mod Traces
 pub mod Turned

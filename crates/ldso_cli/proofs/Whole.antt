@@ -216,7 +216,7 @@ module _ (handed handed' : Handing) (law : Law) (words : List (List ℕ)) (files
   one_of (Some (commands.Assemble path)) asks one two = over_files (commands.Assemble path) (p.told (commands.Assemble path) asks.0 refl) (q.told (commands.Assemble path) asks.0 refl)
       (p.reads_well (commands.Assemble path) asks.0 refl) (q.reads_well (commands.Assemble path) asks.0 refl) one two one.answers two.answers
   one_of (Some (commands.Turns turns)) asks one two = one_turned turns asks one two
-  one_of (Some (commands.Run run)) asks one two = absurd one.answers
+  one_of (Some (commands.Run run)) asks one two = absurd (p.written (commands.Run run) asks.0)
   one_of (Some (commands.Check check)) asks one two =
       let same = one_checked law.one_verdict check files first.before first.after second.before second.after first.end second.end one.text two.text (p.told (commands.Check check) asks.0 refl) (q.told (commands.Check check) asks.0 refl)
       one.answers (no_reads handed (Some (commands.Check check)) first one (p.reads_well (commands.Check check) asks.0 refl))

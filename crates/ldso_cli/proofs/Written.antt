@@ -1,11 +1,10 @@
 -- An answer, as it was written.
-use Rattle.std.proofs.Common.{◌≡◌, ◌⊎◌, inl, inr, Option, Some, None, Result, Ok, Err, ap, subst, sym}
+use Rattle.std.proofs.Common.{◌≡◌, ◌⊎◌, inl, inr, Option, Some, None, Result, Ok, Err, refl, ap, subst, sym}
 use Rattle.std.specs.Prelude.{IfOk}
 use Rattle.std.specs.Result.{MatchResult}
 use Rattle.std.specs.declared.alloc.AllocError.{AllocError}
 use Rattle.cli_words.specs.declared.command.Command.{Command}
 use Rattle.library_source.specs.Count.{Rises}
-use Rattle.trace_text.specs.declared.run_texts.record.RunRecord.{RunRecord}
 use Rattle.ldso_cli.specs.Command.{WordsAnswer}
 use Rattle.ldso_cli.specs.Complete.{Completes, IsDone}
 use Rattle.ldso_cli.specs.Ends.{WordsEnd, Handing, IsUnanswered, Written}
@@ -23,17 +22,15 @@ ended handed command before after old new (Err e) end answers unanswered = inr u
 
 -- what is kept stays, however the answer was written
 pub keeps : (handed : Handing) (command : Option Command) (before after : LibraryAt) (old new : SinkAt) (end : End) → AnswersAreHistories → WordsEnd handed command before after old new end
-    → Headline command before after end.kept
+    → Headline command before after end
 keeps handed command before after old new end law (inr unanswered) =
-    let P : Option RunRecord → Type 0 = λ kept. Headline command before after kept in
-    subst P (sym (ap (λ (e : End). e.kept) unanswered.end_is)) tt
+    subst (Headline command before after) (sym unanswered.end_is) refl
 keeps handed command before after old new end law (inl answered) =
-    let P : Option RunRecord → Type 0 = λ kept. Headline command before after kept in
-    let own : Headline command before after answered.own.kept = law command before after answered.own answered.text answered.answers in
+    let own : Headline command before after answered.own = law command before after answered.own answered.text answered.answers in
     elim answered.written [
-      | inl whole ↦ subst P (sym (ap (λ (e : End). e.kept) whole.end_is)) own
-      | inr (inl short) ↦ subst P (sym (ap (λ (e : End). e.kept) short.end_is)) own
-      | inr (inr stopped) ↦ subst P (sym (ap (λ (e : End). e.kept) stopped.end_is)) own
+      | inl whole ↦ subst (Headline command before after) (sym whole.end_is) own
+      | inr (inl short) ↦ subst (Headline command before after) (sym short.end_is) own
+      | inr (inr stopped) ↦ subst (Headline command before after) (sym stopped.end_is) own
     ]
 
 -- and a command that did what it was asked ends so, where its sink doesn't fail

@@ -5,13 +5,13 @@ use Rattle.cli_words.specs.declared.command.Command.{Command}
 use Rattle.cli_words.specs.declared.command.Command.TheVariants as commands
 use Rattle.ldso_cli.specs.Turns.{IsScheduled}
 
--- a command that can be carried out: words of one that isn't built are a usage until it is, and so are those with a schedule that is none
+-- a command that can be carried out: words with a schedule that is none are a usage
 abbrev pub CanBeDone : Command → Type 0
 CanBeDone (commands.Bind bind) = Unit {0}
 CanBeDone (commands.Assemble path) = Unit {0}
 CanBeDone (commands.Dump path) = Unit {0}
 CanBeDone (commands.Turns turns) = IsScheduled turns
-CanBeDone (commands.Run run) = ⊥
+CanBeDone (commands.Run run) = Unit {0}
 CanBeDone (commands.Check check) = Unit {0}
 CanBeDone (commands.Generate number) = Unit {0}
 

@@ -15,6 +15,7 @@ use Rattle.ldso_cli.specs.Generate.{GenComes}
 use Rattle.ldso_cli.specs.Outside.{LibraryAt}
 use Rattle.ldso_cli.specs.Played.{StartMisses}
 use Rattle.ldso_cli.specs.Status.{usage_text}
+use Rattle.ldso_cli.specs.Threads.{RunComes}
 use Rattle.ldso_cli.specs.Turns.{TurnsComes}
 use Rattle.ldso_cli.specs.declared.outcome.Cause.{Cause}
 use Rattle.ldso_cli.specs.declared.outcome.Cause.TheVariants as causes
@@ -52,7 +53,7 @@ Misses (commands.Bind bind) before after name = Over before.files (BindMisses bi
 Misses (commands.Dump path) before after name = (name ≡ path) × Rises before.misses after.misses
 Misses (commands.Assemble path) before after name = (name ≡ path) × Rises before.misses after.misses
 Misses (commands.Turns turns) before after name = StartMisses turns.setup before after name
-Misses (commands.Run run) before after name = ⊥
+Misses (commands.Run run) before after name = StartMisses run.setup before after name
 Misses (commands.Check check) before after name = (name ≡ check.trace) × Rises before.misses after.misses
 Misses (commands.Generate number) before after name = Unit {0}
 
@@ -98,7 +99,7 @@ CommandAnswers (commands.Bind bind) before after end text = OverFiles (commands.
 CommandAnswers (commands.Dump path) before after end text = OverFiles (commands.Dump path) before after end text
 CommandAnswers (commands.Assemble path) before after end text = OverFiles (commands.Assemble path) before after end text
 CommandAnswers (commands.Turns turns) before after end text = TurnsComes turns before after end text
-CommandAnswers (commands.Run run) before after end text = ⊥
+CommandAnswers (commands.Run run) before after end text = RunComes run before after end text
 CommandAnswers (commands.Check check) before after end text = CheckComes check before after end text
 CommandAnswers (commands.Generate number) before after end text = GenComes number end text
 

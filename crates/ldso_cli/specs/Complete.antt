@@ -55,7 +55,7 @@ FilesSuffice (commands.Bind bind) files = CanBeBound bind files
 FilesSuffice (commands.Dump path) files = CanBeDumped path files
 FilesSuffice (commands.Assemble path) files = CanBeAssembled path files
 FilesSuffice (commands.Turns turns) files = CanStart (run_of turns.setup (Some files)) turns.setup
-FilesSuffice (commands.Run run) files = ⊥
+FilesSuffice (commands.Run run) files = CanStart (run_of run.setup (Some files)) run.setup
 FilesSuffice (commands.Check check) files = IsLegalTrace check files
 FilesSuffice (commands.Generate number) files = CanStart (run_of set_setup (Some files)) set_setup
 
@@ -78,7 +78,7 @@ IsDone (commands.Bind bind) end = end.cause ≡ causes.Done
 IsDone (commands.Dump path) end = end.cause ≡ causes.Done
 IsDone (commands.Assemble path) end = end.cause ≡ causes.Done
 IsDone (commands.Turns turns) end = RanToItsEnd causes.Ran end
-IsDone (commands.Run run) end = ⊥
+IsDone (commands.Run run) end = RanToItsEnd causes.Ran end
 IsDone (commands.Check check) end = end.cause ≡ causes.Done
 IsDone (commands.Generate number) end = RanToItsEnd (λ run_end. set_cause (Ok run_end)) end
 

@@ -2,21 +2,26 @@
 use Rattle.std.specs.Prelude.{◌≡◌, List, [], Option, Some, None}
 use Rattle.history_event.specs.declared.event.Event.{Event}
 use Rattle.trace_text.specs.declared.run_texts.record.RunRecord.{RunRecord}
+use Rattle.word_rule.specs.declared.view.KeeperView.{KeeperView}
 use Rattle.ldso_cli.specs.declared.outcome.Cause.{Cause}
 use Rattle.ldso_cli.specs.declared.outcome.End.{End}
 use Rattle.ldso_cli.specs.declared.outcome.Outcome.{Outcome}
 
 -- the end that an outcome shows, less its status
 abbrev pub end_of : Outcome → End
-end_of outcome = record { cause = outcome.cause; kept = outcome.kept }
+end_of outcome = record { cause = outcome.cause; kept = outcome.kept; trails = outcome.trails }
 
 -- the end of a command that runs no program: nothing is kept of a run
 abbrev pub bare : Cause → End
-bare cause = record { cause = cause; kept = None }
+bare cause = record { cause = cause; kept = None; trails = None }
 
--- the end of a command whose run left this, which is kept
+-- the end of a command whose run on one thread left this, which is kept
 abbrev pub kept_end : Cause → RunRecord → End
-kept_end cause left = record { cause = cause; kept = Some left }
+kept_end cause left = record { cause = cause; kept = Some left; trails = None }
+
+-- and of one whose run on threads left this, and its harts' trails, if it started
+abbrev pub told_end : Cause → RunRecord → Option KeeperView → End
+told_end cause left trails = record { cause = cause; kept = Some left; trails = trails }
 
 -- the events that are kept
 abbrev pub events_kept : End → List Event

@@ -10,6 +10,7 @@ use Rattle.library_source.specs.declared.sink.WriteError.{WriteError}
 use Rattle.library_source.specs.declared.sink.WriteError.TheVariants as writes
 use Rattle.cli_words.specs.Reads.{Reads}
 use Rattle.cli_words.specs.declared.command.Command.{Command}
+use Rattle.cli_words.specs.declared.command.Command.TheVariants as commands
 use Rattle.history_event.specs.declared.event.Event.{Event}
 use Rattle.history_event.specs.declared.event.Event.TheVariants.{Ended}
 use Rattle.history_calls.specs.Laws.{is_memory}
@@ -88,9 +89,15 @@ pub record RunAt : Type 0 where
 abbrev pub is_want_of_memory : Event → Bool
 is_want_of_memory e = elim e [ Ended hart reason ↦ is_memory reason | _ ↦ false ]
 
+-- it is written which turn comes when
+abbrev pub IsScheduledWhole : Command → Type 0
+IsScheduledWhole (commands.Run run) = ⊥
+IsScheduledWhole other = Unit {0}
+
 -- a call with these words over these files, which the library tells (gen reads none of it), in which neither the library nor the sink fails,
--- and memory suffices, for the harts of a run that it makes, too
+-- and memory suffices, for the harts of a run that it makes, too; and no harts run on threads
 pub record IsUndisturbed (handed : Handing) (words : List (List ℕ)) (files : List File) (run : RunAt) : Type 0 where
+  pub written : (command : Command) → Reads words command → IsScheduledWhole command
   pub told : (command : Command) → Reads words command → AreTold command run.before files
   pub ends : OfAsked words (λ command. WordsEnd handed command run.before run.after run.old run.new run.end)
   pub reads_well : (command : Command) → Reads words command → ReadsWell command run.before run.after

@@ -11,7 +11,7 @@ use Rattle.ldso_cli.specs.declared.outcome.End.{End}
 -- what it keeps is a history
 abbrev pub AnswersAreHistories : Type 0
 AnswersAreHistories = (command : Option Command) (before after : LibraryAt) (own : End) (text : List ℕ)
-    → WordsAnswer command before after own text → Headline command before after own.kept
+    → WordsAnswer command before after own text → Headline command before after own
 
 -- where the files have all that it asks for, and no read fails, it does what it was asked
 abbrev pub AnswersComplete : Type 0

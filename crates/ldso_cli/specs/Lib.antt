@@ -15,4 +15,5 @@ pub mod Outside
 pub mod Played
 pub mod Scheduled
 pub mod Status
+pub mod Threads
 pub mod Turns

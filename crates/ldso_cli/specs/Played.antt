@@ -1,4 +1,4 @@
--- How a run on one thread ends, and what it leaves.
+-- How a run ends, and what it leaves: on one thread, but for what runs on threads share with it.
 use Rattle.std.specs.Prelude.{◌≡◌, ◌⊎◌, ℕ, List, [], Option, Result, Ok, Err}
 use Rattle.ld_base.specs.declared.fault.DlFault.{DlFault}
 use Rattle.ld_base.specs.declared.fault.DlFault.TheVariants as dl
@@ -53,13 +53,17 @@ pub record IsRun (setup : Setup) (items : List TurnItem) (files : Option (List F
 abbrev pub StartMisses : Setup → LibraryAt → LibraryAt → List ℕ → Type 0
 StartMisses setup before after name = AreMissed (ArePathsAtStart setup.folders setup.program name) before.misses after.misses
 
--- how a run comes to its end, while its library goes on from one state to another; no failure is invented
-pub record IsPlayed (setup : Setup) (items : List TurnItem) (before after : LibraryAt) (ended : Result RunEnd DlFault) (left : RunRecord) : Type 0 where
-  pub is : IsNotRun setup before.files ended left ⊎ IsRun setup items before.files ended left
+-- how a run comes to its end, while its library goes on from one state to another: it doesn't start, or it runs so; and no failure is invented
+pub record ComesToEnd (Runs : Type 0) (setup : Setup) (before after : LibraryAt) (ended : Result RunEnd DlFault) (left : RunRecord) : Type 0 where
+  pub is : IsNotRun setup before.files ended left ⊎ Runs
   pub read_fault : (path : List ℕ) → ended ≡ Err (dl.ReadFault path) → Rises before.faults after.faults
   pub missing : (name : List ℕ) → ended ≡ Err (dl.MissingLibrary name) → StartMisses setup before after name
   -- over the whole journal: an opening of a guest's may be refused so, too
   pub counted : ShowInCounts setup.folders left.journal.events (counts_in before) (counts_in after)
+
+-- by the items of a schedule
+abbrev pub IsPlayed : Setup → List TurnItem → LibraryAt → LibraryAt → Result RunEnd DlFault → RunRecord → Type 0
+IsPlayed setup items before after ended left = ComesToEnd (IsRun setup items before.files ended left) setup before after ended left
 
 -- why a command ends whose run ended so, and the last line of what it prints
 abbrev pub run_cause : Result RunEnd DlFault → Cause

@@ -85,6 +85,7 @@ fn told(alloc: Global, number: u32, played: Played) -> Result<Answer, AllocError
     let end = End {
         cause: set_cause(ended),
         kept: Some(left),
+        trails: None,
     };
     Ok(Answer { end, text })
 }

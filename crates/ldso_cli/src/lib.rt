@@ -15,6 +15,7 @@ mod generate;
 mod law;
 mod outcome;
 mod play;
+mod threads;
 mod top;
 mod turns;
 

@@ -9,6 +9,7 @@ use ld_base::{AsmCause, DlFault};
 use std::alloc::{AllocError, Global};
 use trace_check::TraceCause;
 use trace_text::{RunEnd, RunRecord};
+use word_memory::Trails;
 
 /// Why the command ends.
 #[derive(Drop)]
@@ -38,6 +39,8 @@ pub struct End {
     /// The record of the run, of a command that runs a program. Where startup was refused its journal is
     /// startup's, and it has no ends. Where there wasn't enough memory it may be there or not.
     pub kept: Option<RunRecord>,
+    /// What each hart did, of a run on threads that started: the harts' last views, with their trails.
+    pub trails: Option<Trails>,
 }
 
 /// How the command ended: its status, and its end.
@@ -47,6 +50,8 @@ pub struct Outcome {
     pub cause: Cause,
     /// As in [`End`].
     pub kept: Option<RunRecord>,
+    /// As in [`End`].
+    pub trails: Option<Trails>,
 }
 
 /// The status with which a refusal ends the command.
@@ -99,7 +104,11 @@ impl End {
     pub fn bare(cause: Cause) -> Self
         ensures { result ≡ bare cause }
     {
-        End { cause, kept: None }
+        End {
+            cause,
+            kept: None,
+            trails: None,
+        }
     }
 
     /// The same end for another cause: what is kept stays.
@@ -122,11 +131,16 @@ impl End {
         ensures status { result.status ≡ status_of self }
     {
         let status = self.status();
-        let End { cause, kept } = self;
+        let End {
+            cause,
+            kept,
+            trails,
+        } = self;
         Outcome {
             status,
             cause,
             kept,
+            trails,
         }
     }
 }

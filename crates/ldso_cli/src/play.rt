@@ -69,7 +69,7 @@ fn over(run: World) -> Played
 }
 
 /// What a run leaves that doesn't start.
-fn not_started(alloc: Global, fault: DlFault, journal: Journal) -> Played
+pub(crate) fn not_started(alloc: Global, fault: DlFault, journal: Journal) -> Played
     ensures { LeavesRefusal fault journal.events result.ended result.left }
 {
     Played {

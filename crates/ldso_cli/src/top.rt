@@ -19,6 +19,7 @@ use crate::dump::dump;
 use crate::generate::generate;
 use crate::law::{answers_are_histories, answers_complete};
 use crate::outcome::{Cause, End, Outcome};
+use crate::threads::run;
 use crate::turns::turns;
 use cli_read::{WordsFault, read_command};
 use cli_words::{Command, words_are_one_command};
@@ -28,7 +29,8 @@ use std::sync::Wait;
 use std::thread::Threads;
 
 /// What the words come to.
-fn answer<L: Library + Drop>(
+fn answer<R: Threads + Wait + Sync, L: Library + Send + Drop>(
+    rt: &R,
     alloc: Global,
     words: &[String],
     library: L,
@@ -47,10 +49,9 @@ fn answer<L: Library + Drop>(
         Ok(Command::Dump(path)) => (dump(alloc, path, &mut library), library),
         Ok(Command::Assemble(path)) => (asm(alloc, path, &mut library), library),
         Ok(Command::Turns(command)) => (turns(alloc, &command, &mut library), library),
+        Ok(Command::Run(command)) => run(rt, alloc, &command, library),
         Ok(Command::Check(command)) => check(alloc, command, library),
         Ok(Command::Generate(number)) => (generate(alloc, number), library),
-        // This one isn't built yet.
-        Ok(Command::Run(_)) => (usage(alloc), library),
         Err(WordsFault::Usage) => (usage(alloc), library),
         Err(WordsFault::Memory) => (Err(AllocError), library),
     }
@@ -83,10 +84,12 @@ fn write_answer<K: Sink>(out: &mut K, answer: Result<Answer, AllocError>) -> End
 /// `Done` where the source denotes an object, whose bytes it writes alone, and else with the line that is
 /// refused and the cause. `turns` ends with the first refusal of startup, or with how the run by its
 /// schedule ended; it writes the run's journal, and what the run left is kept beside the end. A schedule
-/// that is none of so many harts is a `Usage`, too. `check` ends with `Done` where the trace is legal; with the line
-/// that is refused, and the cause; or with the refusal of a trace that is missing, can't be read or is too long, or of
-/// an object that can't be read. `gen` makes its files itself and reads none of the library; it runs their program as
-/// `turns` would, writes a summary of the run, and ends with `Done` where the program exited.
+/// that is none of so many harts is a `Usage`, too. `run` does so on threads, each hart on one of its own: it
+/// keeps what each hart did, too, and writes what the program wrote, or the journal where that is asked for.
+/// `check` ends with `Done` where the trace is legal; with the line that is refused, and the cause; or with the
+/// refusal of a trace that is missing, can't be read or is too long, or of an object that can't be read.
+/// `gen` makes its files itself and reads none of the library; it runs their program as `turns` would, writes
+/// a summary of the run, and ends with `Done` where the program exited.
 pub fn ldso<R: Threads + Wait + Sync, L: Library + Send + Drop, K: Sink>(
     rt: &R,
     alloc: Global,
@@ -105,7 +108,7 @@ pub fn ldso<R: Threads + Wait + Sync, L: Library + Send + Drop, K: Sink>(
 
     // The headline: what is kept of a run is one legal history, true at each of its moments.
     ensures headline { OfEachAsked (texts words.items) (λ command. Headline
-        command (library_at L.files L.faults L.misses library) (library_at L.files L.faults L.misses result.1) result.0.kept) }
+        command (library_at L.files L.faults L.misses library) (library_at L.files L.faults L.misses result.1) (end_of result.0)) }
 
     // Where all that the command asks for is there and nothing fails, it does what it was asked, or memory was wanted.
     ensures complete { OfEachAsked (texts words.items) (λ command. Completes
@@ -119,11 +122,10 @@ pub fn ldso<R: Threads + Wait + Sync, L: Library + Send + Drop, K: Sink>(
     ensures misses { L.misses library ≤ L.misses result.1 }
     ensures sink_faults { K.faults out.old ≤ K.faults out.new }
 {
-    let _ = rt;
     words_are_one_command();
     answers_are_histories();
     answers_complete();
-    let (answer, library) = answer(alloc, words.as_slice(), library);
+    let (answer, library) = answer(rt, alloc, words.as_slice(), library);
     let end = write_answer(out, answer);
     (end.into_outcome(), library)
 }

@@ -53,6 +53,7 @@ fn told(alloc: Global, played: Played) -> Result<Answer, AllocError>
     let end = End {
         cause: run_cause(ended),
         kept: Some(left),
+        trails: None,
     };
     Ok(Answer { end, text })
 }

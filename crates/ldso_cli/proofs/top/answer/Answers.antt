@@ -7,7 +7,7 @@ use Rattle.history_calls.specs.Startup.{harts_of}
 use Rattle.cli_read.specs.SaidWords.Words.{texts}
 use Rattle.ldso_cli.specs.Outside.{library_at}
 use Rattle.ldso_cli.proofs.Asking.{generated, left_as_is, turned, turns_read, unanswered}
-use Rattle.ldso_cli.proofs.Bounds.{few_harts, little_fuel}
+use Rattle.ldso_cli.proofs.Bounds.{few_harts, few_run_harts, little_fuel, little_run_fuel}
 use Rattle.ldso_cli.proofs.top.answer.Goals as goal
 
 pub returns-in-Ok-Bind-clause-answers : goal.returns-in-Ok-Bind-clause-answers
@@ -49,6 +49,24 @@ returns-in-Ok-Turns-clause-answers g c =
     let after = library_at g.L.Library.files g.L.Library.faults g.L.Library.misses c.turns.new.library in
     turned c.words_are_one_command.ensures (texts c.args.words.now) c.in-Ok-Turns.command reads before after c.turns.result c.turns.ensures.comes
 
+pub run-requires-clause-few : goal.run-requires-clause-few
+run-requires-clause-few g c = λ _ _.
+    let reads : Reads (texts c.args.words.now) (commands.Run c.in-Ok-Run.command) =
+    subst (λ (command : Command). Reads (texts c.args.words.now) command) c.in-Ok-Run.field-0-is c.in-Ok-Run.ensures.is in
+    few_run_harts (texts c.args.words.now) c.in-Ok-Run.command reads
+
+pub run-requires-clause-fuel : goal.run-requires-clause-fuel
+run-requires-clause-fuel g c = λ _ _.
+    let reads : Reads (texts c.args.words.now) (commands.Run c.in-Ok-Run.command) =
+    subst (λ (command : Command). Reads (texts c.args.words.now) command) c.in-Ok-Run.field-0-is c.in-Ok-Run.ensures.is in
+    little_run_fuel (texts c.args.words.now) c.in-Ok-Run.command reads
+
+pub returns-in-Ok-Run-clause-answers : goal.returns-in-Ok-Run-clause-answers
+returns-in-Ok-Run-clause-answers g c =
+    let reads : Reads (texts c.args.words.now) (commands.Run c.in-Ok-Run.command) =
+    subst (λ (command : Command). Reads (texts c.args.words.now) command) c.in-Ok-Run.field-0-is c.in-Ok-Run.ensures.is in
+    record { asked = Some (commands.Run c.in-Ok-Run.command); asks = (reads, tt); holds = c.run.ensures.comes }
+
 pub returns-in-Ok-Check-clause-answers : goal.returns-in-Ok-Check-clause-answers
 returns-in-Ok-Check-clause-answers g c =
     let reads : Reads (texts c.args.words.now) (commands.Check c.in-Ok-Check.command) =
@@ -62,8 +80,8 @@ returns-in-Ok-Generate-clause-answers g c =
     let library = library_at g.L.Library.files g.L.Library.faults g.L.Library.misses c.args.library in
     generated (texts c.args.words.now) c.in-Ok-Generate.number reads library library c.generate.result c.generate.ensures.comes
 
-pub returns-clause-answers : goal.returns-clause-answers
-returns-clause-answers g c =
+pub returns-in-Err-Memory-clause-answers : goal.returns-in-Err-Memory-clause-answers
+returns-in-Err-Memory-clause-answers g c =
     let memory = c.in-Err-Memory.ensures.memory c.in-Err-Memory.field-0-is in
     unanswered c.words_are_one_command.ensures (texts c.args.words.now) memory.0 memory.1 (λ _. tt)
 
@@ -91,6 +109,12 @@ returns-in-Ok-Turns-clause-untouched g c =
     subst (λ (command : Command). Reads (texts c.args.words.now) command) c.in-Ok-Turns.field-0-is c.in-Ok-Turns.ensures.is in
     turns_read c.words_are_one_command.ensures (texts c.args.words.now) c.in-Ok-Turns.command reads c.args.library c.turns.new.library c.turns.ensures.unread
 
+pub returns-in-Ok-Run-clause-untouched : goal.returns-in-Ok-Run-clause-untouched
+returns-in-Ok-Run-clause-untouched g c =
+    let reads : Reads (texts c.args.words.now) (commands.Run c.in-Ok-Run.command) =
+    subst (λ (command : Command). Reads (texts c.args.words.now) command) c.in-Ok-Run.field-0-is c.in-Ok-Run.ensures.is in
+    record { asked = Some (commands.Run c.in-Ok-Run.command); asks = (reads, tt); holds = λ no. absurd (true≢false no) }
+
 pub returns-in-Ok-Check-clause-untouched : goal.returns-in-Ok-Check-clause-untouched
 returns-in-Ok-Check-clause-untouched g c =
     let reads : Reads (texts c.args.words.now) (commands.Check c.in-Ok-Check.command) =
@@ -103,7 +127,7 @@ returns-in-Ok-Generate-clause-untouched g c =
     subst (λ (command : Command). Reads (texts c.args.words.now) command) c.in-Ok-Generate.field-0-is c.in-Ok-Generate.ensures.is in
     record { asked = Some (commands.Generate c.in-Ok-Generate.number); asks = (reads, tt); holds = λ unread. refl }
 
-pub returns-clause-untouched : goal.returns-clause-untouched
-returns-clause-untouched g c =
+pub returns-in-Err-Memory-clause-untouched : goal.returns-in-Err-Memory-clause-untouched
+returns-in-Err-Memory-clause-untouched g c =
     let memory = c.in-Err-Memory.ensures.memory c.in-Err-Memory.field-0-is in
     unanswered c.words_are_one_command.ensures (texts c.args.words.now) memory.0 memory.1 (λ command. left_as_is command c.args.library)

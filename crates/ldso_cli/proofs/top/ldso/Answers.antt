@@ -5,7 +5,6 @@ use Rattle.ldso_cli.specs.Complete.{Completes}
 use Rattle.ldso_cli.specs.Ends.{WordsEnd, IsCaused}
 use Rattle.ldso_cli.specs.Headline.{Headline}
 use Rattle.ldso_cli.specs.Outside.{handed_to, library_at, sink_at}
-use Rattle.trace_text.specs.declared.run_texts.record.RunRecord.{RunRecord}
 use Rattle.ldso_cli.specs.declared.outcome.Cause.{Cause}
 use Rattle.ldso_cli.specs.declared.outcome.End.{End}
 use Rattle.ldso_cli.proofs.Asking.{along, of_each}
@@ -50,11 +49,10 @@ returns-clause-headline g c =
     let old = sink_at g.K.Sink.taken g.K.Sink.faults c.args.out.now in
     let new = sink_at g.K.Sink.taken g.K.Sink.faults c.write_answer-end.new.out in
     let handed = handed_to g.K.Sink.writes c.args.out.now c.write_answer-end.new.out in
-    let same : c.into_outcome.result.kept ≡ c.write_answer-end.result.kept = ap (λ (e : End). e.kept) c.into_outcome.ensures.end in
-    let P : Option Command → Option RunRecord → Type 0 = λ command kept. Headline command before after kept in
+    let P : Option Command → End → Type 0 = λ command end. Headline command before after end in
     of_each c.words_are_one_command.ensures (texts c.args.words.items)
     (along (texts c.as_slice.result.now) (texts c.args.words.items) (ap (λ (ws : List (String Global)). texts ws) c.as_slice.ensures.value)
-    (λ command answers. subst (P command) (sym same)
+    (λ command answers. subst (P command) (sym c.into_outcome.ensures.end)
     (keeps handed command before after old new c.write_answer-end.result c.answers_are_histories.ensures
     (ended handed command before after old new c.answer-answer.result.0 c.write_answer-end.result answers c.write_answer-end.ensures.written)))
     c.answer-answer.ensures.answers)
