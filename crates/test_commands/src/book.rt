@@ -164,15 +164,14 @@ impl<'a> Book<'a> {
         }
     }
 
-    /// Has the history judged that the example's command wrote, if it did: it is legal, each of its events.
+    /// Has the history of the example's run judged, if it made one: it is legal, each of its events.
     fn judge<R: Threads + Wait + Sync>(
         &mut self,
         rt: &R,
         answer: &Answer,
     ) -> Result<(), AllocError> {
-        let files = files_of(self.alloc, self.command.files.as_slice())?;
-        match self.command.judge(rt, self.alloc, files, answer)? {
-            Some(judgement) => self.tell(judgement.calls_legal(answer), self.first, &judgement),
+        match self.command.judge(rt, self.alloc, answer)? {
+            Some(judged) => self.tell(judged.is_legal, self.first, &judged.answer),
             None => Ok(()),
         }
     }

@@ -22,11 +22,18 @@ pub struct Answer {
 }
 
 impl Answer {
-    /// Whether it is that a history which was written is legal, with as many events as it has lines before the last.
-    pub fn calls_legal(&self, history: &Answer) -> bool {
-        let text = str::from_utf8(history.text.as_slice()).unwrap_or("");
+    /// Whether it is that a history is legal, with as many events as it has lines before the last.
+    fn calls_legal(&self, history: &[u8]) -> bool {
+        let text = str::from_utf8(history).unwrap_or("");
         count_in(self.text.as_slice()) == Some(text.lines().skip(1).count())
     }
+}
+
+/// What a history is judged to be, and whether that is legal, with all its events.
+#[derive(Drop)]
+pub struct Judgement {
+    pub answer: Answer,
+    pub is_legal: bool,
 }
 
 /// A command, the files that it finds, and which of its reads and writes fail.
@@ -66,32 +73,64 @@ impl Command {
         )
     }
 
-    /// What comes of the history that the command wrote, where it ran a program and nothing failed: it is
+    /// What comes of the history of the run that the command makes, where it makes one and nothing failed: it is
     /// judged over the same files.
     pub fn judge<R: Threads + Wait + Sync>(
         &self,
         rt: &R,
         alloc: Global,
-        mut files: Files,
         answer: &Answer,
-    ) -> Result<Option<Answer>, AllocError> {
-        if answer.status == USAGE
-            || !self.failing_reads.is_empty()
-            || !self.failing_writes.is_empty()
-        {
+    ) -> Result<Option<Judgement>, AllocError> {
+        if self.is_disturbed(answer) {
             return Ok(None);
         }
         let own = words_of(alloc, self.words.as_bytes())?;
-        let Some(words) = judging(alloc, own.as_slice(), answer.text.as_slice())? else {
+        let history = self.history(rt, alloc, own.as_slice(), answer)?;
+        let Some(words) = judging(alloc, own.as_slice(), history.as_slice())? else {
             return Ok(None);
         };
+        let mut files = files_of(alloc, self.files.as_slice())?;
         files.push(File {
             path: Name::new(alloc, TRACE.as_bytes())?,
-            bytes: Bytes::from_slice(alloc, answer.text.as_slice())?,
+            bytes: Bytes::from_slice(alloc, history.as_slice())?,
         })?;
+        let answer = self.run_undisturbed(rt, alloc, words, files)?;
+        let is_legal = answer.calls_legal(history.as_slice());
+        Ok(Some(Judgement { answer, is_legal }))
+    }
+
+    /// Whether it made no run, or something is to fail.
+    fn is_disturbed(&self, answer: &Answer) -> bool {
+        answer.status == USAGE || !self.failing_reads.is_empty() || !self.failing_writes.is_empty()
+    }
+
+    /// What it wrote; of a run whose journal it doesn't write, the journal of another one.
+    fn history<R: Threads + Wait + Sync>(
+        &self,
+        rt: &R,
+        alloc: Global,
+        words: &[String],
+        answer: &Answer,
+    ) -> Result<Vec<u8>, AllocError> {
+        if !is_verb(words, "run") || has_option(words, "--trace") {
+            return answer.text.to_vec(alloc);
+        }
+        let files = files_of(alloc, self.files.as_slice())?;
+        let traced = self.run_undisturbed(rt, alloc, with_trace(alloc, words)?, files)?;
+        Ok(traced.text)
+    }
+
+    /// What these words come to over files, of which no read fails.
+    fn run_undisturbed<R: Threads + Wait + Sync>(
+        &self,
+        rt: &R,
+        alloc: Global,
+        words: Vec<String>,
+        files: Files,
+    ) -> Result<Answer, AllocError> {
         let library = self.library(alloc, files)?;
         let sink = MemSink::new(alloc, Calls::new(alloc));
-        Ok(Some(run_words(rt, alloc, words, library, sink)?))
+        run_words(rt, alloc, words, library, sink)
     }
 
     /// The files, of which some reads fail.
@@ -130,19 +169,15 @@ pub fn files_of(alloc: Global, layouts: &[Layout]) -> Result<Files, AllocError> 
     Ok(files)
 }
 
-/// The words by which the history is judged that a command wrote: none where it writes none, where it loads more than
+/// The words by which the history of a command's run is judged: none where it makes none, where it loads more than
 /// the program asks for, or where its start is refused before it names its harts.
 fn judging(
     alloc: Global,
     words: &[String],
     text: &[u8],
 ) -> Result<Option<Vec<String>>, AllocError> {
-    let writes = match words.first() {
-        Some(word) if word.as_str() == "turns" => true,
-        Some(word) if word.as_str() == "run" => words.iter().any(|word| word.as_str() == "--trace"),
-        _ => false,
-    };
-    if !writes || has_option(words, "--preload") {
+    let runs = is_verb(words, "turns") || is_verb(words, "run");
+    if !runs || has_option(words, "--preload") {
         return Ok(None);
     }
     if has_option(words, "--harts") && is_refused(text) {
@@ -159,6 +194,23 @@ fn judging(
 fn count_in(text: &[u8]) -> Option<usize> {
     let line = str::from_utf8(text).ok()?.trim_end();
     line.strip_prefix("end 0 legal ")?.parse().ok()
+}
+
+/// Whether this is the first of the words.
+fn is_verb(words: &[String], verb: &str) -> bool {
+    words.iter().take(1).any(|word| word.as_str() == verb)
+}
+
+/// The words of a run that writes its journal.
+fn with_trace(alloc: Global, words: &[String]) -> Result<Vec<String>, AllocError> {
+    let mut traced = Vec::new(alloc);
+    for (index, word) in words.iter().enumerate() {
+        traced.push(String::from_str(alloc, word.as_str())?)?;
+        if index == 0 {
+            traced.push(String::from_str(alloc, "--trace")?)?;
+        }
+    }
+    Ok(traced)
 }
 
 /// Whether an option stands among the words.
