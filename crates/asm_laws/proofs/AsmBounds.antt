@@ -1,4 +1,2 @@
-pub mod Ends
 pub mod Packs
 pub mod Sizes
-pub mod Tables

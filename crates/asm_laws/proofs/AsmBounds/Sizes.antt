@@ -10,7 +10,8 @@ use Rattle.sym_hash.specs.Hash.{gnu_hash, sysv_hash}
 use Rattle.asm_write.specs.declared.part.Part.{Part}
 use Rattle.asm_write.specs.declared.part.Part.TheVariants as parts
 use Rattle.asm_write.specs.Sizes.{gnu_size, has_listed, plain_size, stands_in, symbol_count, sysv_size}
-use Rattle.asm_write.specs.Starts.{size_of}
+use Rattle.asm_write.specs.Parts.{all_parts}
+use Rattle.asm_write.specs.Starts.{size_in, size_of, start_in, starts_of}
 use Rattle.asm_write.specs.HashBuild.Hashed.{gnu_of, sysv_of}
 use Rattle.asm_statement.specs.declared.directive.Array.TheVariants as arrays
 use Rattle.asm_statement.specs.declared.directive.Directive.TheVariants as directives
@@ -20,6 +21,7 @@ use Rattle.asm_statement.specs.declared.directive.Section.TheVariants as section
 use Rattle.asm_statement.specs.declared.line.Line.{Line}
 use Rattle.asm_statement.specs.declared.line.Statement.{Statement}
 use Rattle.asm_statement.specs.declared.line.Statement.TheVariants as statements
+use Rattle.asm_write.specs.declared.contents.Contents.{Contents}
 use Rattle.asm_write.specs.declared.contents.Spot.{Spot}
 use Rattle.asm_layout.specs.declared.uses.GotKind.TheVariants as gots
 use Rattle.asm_layout.specs.declared.uses.GotUse.{GotUse}
@@ -33,12 +35,14 @@ use Rattle.asm_layout.specs.Uses.{got_uses, imports, slots}
 use Rattle.asm_layout.specs.Versions.{first_needed, needed_files, word}
 use Rattle.asm_laws.specs.Lemmas.Each.{Each, each}
 use Rattle.asm_laws.specs.Lemmas.Fewer.{entries_few, uses_few}
+use Rattle.asm_laws.specs.ElfWritten.Standing.{AlignsInPages}
 use Rattle.asm_laws.specs.Said.{IsSaid}
 use Rattle.asm_laws.specs.Short.{AreOfSource}
 use Rattle.asm_laws.specs.AsmBounds.Lemmas.Counts.{exports_sorted, files_few, imports_few, needed_few, slots_few, versions_few, versions_needed}
 use Rattle.asm_laws.specs.AsmBounds.Lemmas.Records.{exports_long, files_long, imports_long, needed_long, offsets_long, records_few}
-use Rattle.asm_laws.proofs.AsmBounds.Tables.{counted_few, gnu_few, packed_few, segments_few, sysv_few}
-use Rattle.asm_laws.proofs.AsmBounds.Tables.{entries_few as tags_few}
+use Rattle.asm_laws.specs.AsmBounds.Lemmas.Ends.{ends_within, room}
+use Rattle.asm_laws.specs.AsmBounds.Lemmas.Tables.{counted_few, gnu_few, hash_few, if_few, packed_few, segments_few, sysv_few}
+use Rattle.asm_laws.specs.AsmBounds.Lemmas.Tables.{entries_few as tags_few}
 
 -- Places that the linker fills
 
@@ -145,14 +149,6 @@ abbrev pub most : Part → ℕ
 most parts.Strings = 2 ^ 61
 most _ = 2 ^ 53
 
-pub hash_few : (b : Bool) (A : Type 0) (size : A → ℕ) (table : A) (n : ℕ) → size table ≤ n → option_map_or size (if b then Some table else None) 0 ≤ n
-hash_few true A size table n few = few
-hash_few false A size table n few = omega arith
-
-pub if_few : (b : Bool) (n most : ℕ) → n ≤ most → (if b then n else 0) ≤ most
-if_few true n most few = few
-if_few false n most few = omega arith
-
 whole_section : {A : Type 0} (xs : List A) → take (length xs) xs ≡ xs
 whole_section [] = refl
 whole_section (x ∷ xs) = ap (λ rest. x ∷ rest) (whole_section xs)
@@ -253,3 +249,12 @@ module _ (lines : List Line) (source : AreOfSource lines) (said : All (IsSaid li
       if_few (nat_lt 0 (length (contents_of lines).slots)) (16 + 8 * length (contents_of lines).slots) (2 ^ 53) (omega (arith, few, all, same))
   part_small parts.Data = section_small sections.Data
   part_small parts.Bss = section_small sections.Bss
+
+-- Where they end
+
+pub low_end : (contents : Contents) → AlignsInPages contents → ((part : Part) → size_of contents part ≤ most part) → (part : Part)
+    → start_in (starts_of contents) part + size_in (starts_of contents) part < 2 ^ 62
+low_end contents aligns small part = below _ (ends_within contents aligns most small part)
+  where
+    below : (end : ℕ) → end ≤ 0x10000 + room most all_parts → end < 2 ^ 62
+    below end is = omega (arith, is)

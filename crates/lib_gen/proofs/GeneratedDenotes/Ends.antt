@@ -12,7 +12,7 @@ use Rattle.asm_laws.specs.ElfWritten.Standing.{AlignsInPages}
 use Rattle.asm_statement.specs.declared.line.Line.{Line}
 use Rattle.asm_layout.specs.Contents.{contents_of}
 use Rattle.asm_layout.specs.Object.{is_too_big}
-use Rattle.asm_laws.proofs.AsmBounds.Ends.{ends_within, room}
+use Rattle.asm_laws.specs.AsmBounds.Lemmas.Ends.{ends_within, room}
 use Rattle.lib_gen.proofs.GeneratedDenotes.Sizes.{most}
 
 -- 8 MiB are 2^23 bytes

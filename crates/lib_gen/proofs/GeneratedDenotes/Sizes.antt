@@ -29,8 +29,7 @@ use Rattle.asm_laws.specs.Lemmas.Each.{Each, all, both, each}
 use Rattle.asm_laws.specs.Said.{IsSaid, line_names, said_names}
 use Rattle.asm_laws.specs.AsmBounds.Lemmas.Counts.{buckets_few, filter_fewer, imports_few, joined_few, needed_few, product, slots_few}
 use Rattle.asm_laws.specs.AsmBounds.Lemmas.Records.{exports_long, files_long, imports_long, needed_long, offsets_long, records_few}
-use Rattle.asm_laws.proofs.AsmBounds.Sizes.{hash_few, if_few}
-use Rattle.asm_laws.proofs.AsmBounds.Tables.{counted_few, entries_few, gnu_few, packed_few, segments_few, sysv_few}
+use Rattle.asm_laws.specs.AsmBounds.Lemmas.Tables.{counted_few, entries_few, gnu_few, hash_few, if_few, packed_few, segments_few, sysv_few}
 use Rattle.lib_gen.proofs.GeneratedDenotes.Plain.{ArePlain, few_filled, no_files, no_fixes, no_needed, no_versions}
 
 -- Exported symbols: in each bucket no more than in all

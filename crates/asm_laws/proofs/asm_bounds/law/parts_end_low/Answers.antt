@@ -1,6 +1,5 @@
 -- The sizes of all parts, and a page for each.
-use Rattle.asm_laws.proofs.AsmBounds.Ends.{low_end}
-use Rattle.asm_laws.proofs.AsmBounds.Sizes.{part_small}
+use Rattle.asm_laws.proofs.AsmBounds.Sizes.{low_end, part_small}
 use Rattle.asm_layout.specs.Contents.{contents_of}
 use Rattle.asm_laws.proofs.asm_bounds.law.parts_end_low.Goals as goal
 

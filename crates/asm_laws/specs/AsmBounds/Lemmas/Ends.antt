@@ -10,7 +10,6 @@ use Rattle.asm_write.specs.declared.part.Part.TheVariants as parts
 use Rattle.asm_write.specs.Parts.{all_parts, number_of}
 use Rattle.asm_write.specs.Starts.{align_of, base_of, extent_of, padding, page, size_in, size_of, start_in, starts_from, starts_of}
 use Rattle.asm_laws.specs.ElfWritten.Standing.{AlignsInPages}
-use Rattle.asm_laws.proofs.AsmBounds.Sizes.{most}
 
 -- an alignment that divides a page is no greater
 low_align : (align : ℕ) → ((times : ℕ) × (page ≡ times * align)) → align ≤ 4096
@@ -66,10 +65,3 @@ ends_within contents aligns limit small part =
   where
     total : (end base all most : ℕ) → end ≤ base + all → all ≤ most → base ≤ 0x10000 → end ≤ 0x10000 + most
     total end base all most is fewer low = omega (arith, is, fewer, low)
-
-pub low_end : (contents : Contents) → AlignsInPages contents → ((part : Part) → size_of contents part ≤ most part) → (part : Part)
-    → start_in (starts_of contents) part + size_in (starts_of contents) part < 2 ^ 62
-low_end contents aligns small part = below _ (ends_within contents aligns most small part)
-  where
-    below : (end : ℕ) → end ≤ 0x10000 + room most all_parts → end < 2 ^ 62
-    below end is = omega (arith, is)

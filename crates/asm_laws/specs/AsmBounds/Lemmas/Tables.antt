@@ -2,6 +2,7 @@
 use Rattle.std.proofs.Common.{◌≡◌, ℕ, zero, suc, ◌+◌, ◌*◌, ◌≤◌, ◌==◌, ◌||◌, Bool, true, false, nat_lt, if◌then◌else◌, List, [], ◌∷◌, ◌++◌, length, map, filter, replicate, take, drop, arith, length-append}
 use Rattle.std.specs.Prelude.{Option, Some, None, is_some, option_map, option_to_list}
 use Rattle.std.specs.List.{count_by, range_with_len}
+use Rattle.std.specs.Option.{option_map_or}
 use Rattle.std.specs.Int.{from_bool}
 use Rattle.std.proofs.lemmas.List.{length-map, length-replicate}
 use Rattle.std.proofs.lemmas.List.FromFn.{length-range_with_len}
@@ -161,3 +162,13 @@ sysv_few first hashes =
     let both = length-append (replicate first 0) (links_of first (bucket_count (length hashes)) hashes) in
     let few = buckets_within (length hashes) in
     omega (arith, buckets, zeros, links, both, few)
+
+-- A table that an object may do without
+
+pub hash_few : (b : Bool) (A : Type 0) (size : A → ℕ) (table : A) (n : ℕ) → size table ≤ n → option_map_or size (if b then Some table else None) 0 ≤ n
+hash_few true A size table n few = few
+hash_few false A size table n few = omega arith
+
+pub if_few : (b : Bool) (n most : ℕ) → n ≤ most → (if b then n else 0) ≤ most
+if_few true n most few = few
+if_few false n most few = omega arith
