@@ -7,7 +7,8 @@ ghost use Rattle.hart_moves.specs.Worked.{CopiesInside, CopiesName, EndsAtRole, 
 ghost use Rattle.hart_moves.specs.Worked.{FollowsItself, FollowsWinner, GoesOn, GoesOnWithoutFuel, GrantsGlobal, GrantsTheFirst, HasNoFunction};
 ghost use Rattle.hart_moves.specs.Worked.{RunsWithoutFuel, ServesAtOnce, Starts, StartsEarly, TextWords, Traps};
 ghost use Rattle.hart_moves.specs.WorkedCalls.{CompletesBehind, CopiesNoVersion, CopiesSome, EndsAtPair, EndsForMemory, EntersPreinit};
-ghost use Rattle.hart_moves.specs.WorkedCalls.{LeavesItsOwn, PassesClosed, ReadsNothing, SettlesAtEnd, SkipsItsOwn, StoresFirst, StoresLast, WaitsForGrant, WritesSome};
+ghost use Rattle.hart_moves.specs.WorkedCalls.{LeavesItsOwn, PassesClosed, ReadsNothing, SettlesAtEnd, SkipsItsOwn, StoresFirst, StoresLast};
+ghost use Rattle.hart_moves.specs.WorkedCalls.{WaitsForGrant, WritesSome};
 ghost use Rattle.hart_moves.specs.WorkedWaits.{AsksAgain, AsksNothing, BeginsToWait, WaitsOn};
 ghost use Rattle.history_state.specs.State.{State};
 

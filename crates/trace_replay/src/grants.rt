@@ -1,6 +1,7 @@
 //! Grants, found by their numbers and by their slots.
 
-ghost use Rattle.std.specs.Prelude.{◌≡◌, ◌==◌, ℕ, ◌+◌, ◌<◌, ◌&&◌, false, [], ◌∷◌, ◌++◌, filter, find, length, map, slice_set, if◌then◌else◌, IfNone, IfSome, OnErr, OnOk, Some};
+ghost use Rattle.std.specs.Prelude.{◌≡◌, ◌==◌, ℕ, ◌+◌, ◌<◌, ◌&&◌, false, [], ◌∷◌, ◌++◌, filter, find, length, map, slice_set, if◌then◌else◌, IfNone};
+ghost use Rattle.std.specs.Prelude.{IfSome, OnErr, OnOk, Some};
 ghost use Rattle.std.specs.List.{slice_get};
 ghost use Rattle.std.specs.Vec.{vec_capacity, vec_len};
 ghost use Rattle.history_event.specs.declared.state.Granting.{Granting as granting};

@@ -3,7 +3,8 @@
 ghost use Rattle.std.specs.Prelude.{◌≡◌, ◌++◌, Some, IfOk, OnOk, flat_map};
 ghost use Rattle.std.specs.Option.{option_copied};
 ghost use Rattle.std.specs.String.{string_bytes};
-ghost use Rattle.trace_view.specs.Graph.{bound_edge, dot_byte, edge_ends, edge_text, graph_start, graph_text, is_called, is_file_name, names_itself, need_edge, needs_of, node_end, node_start, node_text, provider_of, slot_label};
+ghost use Rattle.trace_view.specs.Graph.{bound_edge, dot_byte, edge_ends, edge_text, graph_start, graph_text, is_called, is_file_name, names_itself};
+ghost use Rattle.trace_view.specs.Graph.{need_edge, needs_of, node_end, node_start, node_text, provider_of, slot_label};
 
 use crate::journal::{Made, Step};
 use crate::members::Member;

@@ -6,7 +6,8 @@ ghost use Rattle.serde_json.specs.Data.{put as with_member, string};
 ghost use Rattle.serde_json.specs.View.{members_view, view};
 ghost use Rattle.serde_json.specs.Written.{compact_text, has_float};
 ghost use Rattle.trace_view.specs.Names.{object_name};
-ghost use Rattle.trace_view.specs.Json.{address_of, data_of, end_data, grant_of, json_line, json_text, kind_of, number_or_null, object_of, text_or_null, with_numbers, with_object};
+ghost use Rattle.trace_view.specs.Json.{address_of, data_of, end_data, grant_of, json_line, json_text, kind_of, number_or_null, object_of};
+ghost use Rattle.trace_view.specs.Json.{text_or_null, with_numbers, with_object};
 ghost use Rattle.trace_view.specs.Picture.{hart_of};
 
 use crate::journal::{Journal, Step};

@@ -3,7 +3,8 @@
 ghost use Rattle.std.specs.Prelude.{◌≡◌, ◌<◌, ◌∷◌, Some, flat_map, option_map};
 ghost use Rattle.std.specs.Fmt.{WritesOnOk};
 ghost use Rattle.ld_base.specs.Text.{hex_digit};
-ghost use Rattle.trace_view.specs.Names.{choice_name, handle_name, linker_name, new_name, object_name, objects_text, news_text, quoted, quoted_byte, slot_name, symbol_name};
+ghost use Rattle.trace_view.specs.Names.{choice_name, handle_name, linker_name, new_name, object_name, objects_text, news_text, quoted, quoted_byte};
+ghost use Rattle.trace_view.specs.Names.{slot_name, symbol_name};
 
 use crate::members::{Member, member_of, slot_symbol_of, symbol_of};
 use history_event::NewLine;

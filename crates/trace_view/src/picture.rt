@@ -4,7 +4,10 @@ ghost use Rattle.std.specs.Prelude.{◌≡◌, ◌==◌, ◌<◌, ◌^◌, ◌++
 ghost use Rattle.std.specs.List.{list_any};
 ghost use Rattle.std.specs.Option.{option_copied};
 ghost use Rattle.std.specs.String.{string_bytes};
-ghost use Rattle.trace_view.specs.Picture.{arc_text, circle_text, circle_x, circle_y, fill_text, ground_text, opening_text, path_bend, path_start, size_text, stroke_text, colour_of, curve_text, hart_of, head_text, label_text, lane_for, lane_of, lane_text, lanes_of, line_text, mark_text, picture_text, row_text, start_text, with_hart, x_of, xml_byte, y_of};
+ghost use Rattle.trace_view.specs.Picture.{arc_text, circle_text, circle_x, circle_y, fill_text, ground_text, opening_text, path_bend, path_start};
+ghost use Rattle.trace_view.specs.Picture.{size_text, stroke_text, colour_of, curve_text, hart_of, head_text, label_text, lane_for, lane_of};
+ghost use Rattle.trace_view.specs.Picture.{lane_text, lanes_of, line_text, mark_text, picture_text, row_text, start_text, with_hart, x_of, xml_byte};
+ghost use Rattle.trace_view.specs.Picture.{y_of};
 
 use crate::journal::{Journal, Made, Step};
 use crate::members::Member;

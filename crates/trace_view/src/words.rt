@@ -2,7 +2,10 @@
 
 ghost use Rattle.std.specs.Prelude.{◌≡◌, [], ◌∷◌, ◌++◌, Some, IfOk, OnOk, flat_map, option_map};
 ghost use Rattle.std.specs.String.{string_bytes};
-ghost use Rattle.trace_view.specs.Words.{asked_name, asked_words, block_words, bound_to_words, chosen_words, value_words, gets_words, its_call_words, no_code_words, through_words, bound_words, by_hart, calls_words, cannot_words, found_words, last_words, ran_words, saw_words, close_answer_words, close_words, event_words, lost_words, open_words, place_words, refused_words, sym_words};
+ghost use Rattle.trace_view.specs.Words.{asked_name, asked_words, block_words, bound_to_words, chosen_words, value_words, gets_words, its_call_words};
+ghost use Rattle.trace_view.specs.Words.{no_code_words, through_words, bound_words, by_hart, calls_words, cannot_words, found_words, last_words};
+ghost use Rattle.trace_view.specs.Words.{ran_words, saw_words, close_answer_words, close_words, event_words, lost_words, open_words, place_words};
+ghost use Rattle.trace_view.specs.Words.{refused_words, sym_words};
 ghost use Rattle.trace_view.specs.Words.{step_words, sym_answer_words, told_words, version_words, open_answer_words, words_text};
 
 use crate::journal::{Journal, Made, Step};

@@ -1,7 +1,8 @@
 //! Text.
 
 ghost use Rattle.std.specs.Prelude.{◌≡◌, ◌≤◌, IfOk, map, length, option_map};
-ghost use Rattle.asm_statement.specs.AsmWords.Text.{is_blank, after_blanks, before_blanks, trimmed, is_mark, until_mark, until_blank, cut_at, cut, cut_blank, parts_of};
+ghost use Rattle.asm_statement.specs.AsmWords.Text.{is_blank, after_blanks, before_blanks, trimmed, is_mark, until_mark, until_blank, cut_at, cut};
+ghost use Rattle.asm_statement.specs.AsmWords.Text.{cut_blank, parts_of};
 
 use std::alloc::{AllocError, Global};
 

@@ -3,7 +3,8 @@
 ghost use Rattle.std.specs.Prelude.{◌≡◌, ◌^◌, ◌<◌, ◌++◌, IfOk, OnOk, flat_map};
 ghost use Rattle.std.specs.List.{range_with_len};
 ghost use Rattle.std.specs.String.{string_bytes};
-ghost use Rattle.lib_gen.specs.GeneratedSources.Sources.{calls_from, function_lines, library_file, library_source, needed_line, program_file, program_source, sources};
+ghost use Rattle.lib_gen.specs.GeneratedSources.Sources.{calls_from, function_lines, library_file, library_source, needed_line, program_file};
+ghost use Rattle.lib_gen.specs.GeneratedSources.Sources.{program_source, sources};
 
 use crate::generated_sources::{function_count, library_count};
 use ld_base::{Bytes, File, Files, Name};

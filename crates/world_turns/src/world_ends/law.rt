@@ -1,6 +1,7 @@
 //! What holds of the ends of every run.
 
-ghost use Rattle.world_turns.specs.WorldEnds.Laws.{ExitsAreTold, FinalsBegin, FinalsLack, HartsMayEnd, RunsFinish, RunsFit, StartFits, TurnsKeepBefore, TurnsKeepFinals};
+ghost use Rattle.world_turns.specs.WorldEnds.Laws.{ExitsAreTold, FinalsBegin, FinalsLack, HartsMayEnd, RunsFinish, RunsFit, StartFits};
+ghost use Rattle.world_turns.specs.WorldEnds.Laws.{TurnsKeepBefore, TurnsKeepFinals};
 ghost use Rattle.world_turns.specs.WorldEnds.Laws.{SettlingKeepsBefore, SettlingKeepsInFinals};
 
 /// The ends of the journal are those of the harts when a run starts, and stay so with every turn, when the
