@@ -20,7 +20,10 @@ abbrev pub offer : Offered
 offer = record { number = 1; slot = 0x37010; lazy = 0x35000; value = 0x39000 }
 
 abbrev pub exchange : Exchange
-exchange = record { grant = record { entry = record { mark = 3; number = 1; slot = 0x37010; value = 0x39000; generation = 0 }; lazy = 0x35000 }; found = 0x35000 }
+exchange = record {
+  grant = record { entry = record { mark = 3; number = 1; slot = 0x37010; value = 0x39000; generation = 0 }; lazy = 0x35000 };
+  found = 0x35000;
+}
 
 -- a turn behind the grant
 abbrev pub turn : HartState → Did → Turned

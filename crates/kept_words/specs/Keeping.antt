@@ -80,13 +80,15 @@ pub record IsRemadeView (s : State) (e : Event) (k l : KeeperView) : Type 0 wher
 
 -- a hart's event that may come remade memory; it is counted, and the hart gets its entry
 abbrev pub RemadeKept : Type 0
-RemadeKept = (w : Setting) (begun : List Event) (k l : KeeperView) (h : ℕ) (e : Event) (entry : Entry) → AcceptsOnly w.machine → AreKept w begun k → h < w.machine.harts
+RemadeKept = (w : Setting) (begun : List Event) (k l : KeeperView) (h : ℕ) (e : Event) (entry : Entry)
+    → AcceptsOnly w.machine → AreKept w begun k → h < w.machine.harts
     → hart_of e ≡ Some h → remakes_memory e ≡ true → Allowed w k.events e → IsRemadeView (after k.events) e k l → entry ≡ entry_behind k.events e
     → AreKept w begun (handed_over h entry (counted e l))
 
 -- the slot of a grant whose fate isn't known isn't among what comes and goes
 abbrev pub PendingStay : Type 0
-PendingStay = (w : Setting) (past : List Event) (e : Event) (k : KeeperView) (number : ℕ → Grant → ℕ) (m : ℕ) (g : Grant) → AcceptsOnly w.machine → Lawful w.machine past
+PendingStay = (w : Setting) (past : List Event) (e : Event) (k : KeeperView) (number : ℕ → Grant → ℕ) (m : ℕ) (g : Grant)
+    → AcceptsOnly w.machine → Lawful w.machine past
     → Allowed w past e → IsOfState (after past) k number → m < harts_at_most → (row_of k m).pending ≡ Some g → IsOf (kept_at k) (place_of g.entry.slot) g
     → StandsApart (after past) e g.entry.slot
 

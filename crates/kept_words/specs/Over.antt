@@ -32,7 +32,8 @@ abbrev pub IsFinished : Setting → List Event → Type 0
 IsFinished w journal = IsTrue (are_finals w (after journal)) → finis_of (after journal) (map serial_of (mapped (after journal))) ≡ []
 
 abbrev pub OverIsWhole : Type 0
-OverIsWhole = (w : Setting) (begun : List Event) (k : KeeperView) → AcceptsOnly w.machine → AreKept w begun k → IsOver k → IsFinished w k.events → Whole w k.events
+OverIsWhole = (w : Setting) (begun : List Event) (k : KeeperView)
+    → AcceptsOnly w.machine → AreKept w begun k → IsOver k → IsFinished w k.events → Whole w k.events
 
 -- ---- a hart whose seat was joined once it had taken all
 
@@ -46,7 +47,8 @@ pub record TrailIsTrue (w : Setting) (begun journal : List Event) (h : ℕ) (j :
   pub lost : (x : Exchange) → Contains (exchanges_of j.trail) x → x.found ≢ x.grant.lazy → Contains journal (Lost (number_in journal h x.grant) x.found)
 
 abbrev pub TrailsAreTrue : Type 0
-TrailsAreTrue = (w : Setting) (begun : List Event) (k : KeeperView) (h state : ℕ) (j : HartView) → AreKept w begun k → h < harts_at_most → (row_of k h).pending ≡ None
+TrailsAreTrue = (w : Setting) (begun : List Event) (k : KeeperView) (h state : ℕ) (j : HartView)
+    → AreKept w begun k → h < harts_at_most → (row_of k h).pending ≡ None
     → HasTakenAll k h state j → TrailIsTrue w begun k.events h j
 
 -- each grant that was bound is one that a hart's exchange won, and each that was lost one that it lost, with the word that was seen
@@ -60,5 +62,6 @@ pub record IsExchanged (journal : List Event) (k : KeeperView) (n : ℕ) (f : Fa
   pub shown : ShowsLoss k.losses hart grant e
 
 abbrev pub FatesAreExchanges : Type 0
-FatesAreExchanges = (w : Setting) (begun : List Event) (k : KeeperView) (n : ℕ) (f : Fate) (e : Event) → AreKept w begun k → Contains k.events e → IsFateEvent n f e
+FatesAreExchanges = (w : Setting) (begun : List Event) (k : KeeperView) (n : ℕ) (f : Fate) (e : Event)
+    → AreKept w begun k → Contains k.events e → IsFateEvent n f e
     → IsExchanged k.events k n f e

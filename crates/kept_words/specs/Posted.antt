@@ -26,5 +26,6 @@ pub record Posts (s : State) (k : KeeperView) (number next : ℕ → Grant → �
   pub fresh : (j : ℕ) (p : Grant) → j < harts_at_most → Stands (row_of k j) p → number j p ≢ x.number
 
 abbrev pub PostedStays : Type 0
-PostedStays = (s : State) (k : KeeperView) (number next : ℕ → Grant → ℕ) (m : ℕ) (g : Grant) (x : Granting) → IsLong k → IsOfState s k number → Posts s k number next m g x
+PostedStays = (s : State) (k : KeeperView) (number next : ℕ → Grant → ℕ) (m : ℕ) (g : Grant) (x : Granting)
+    → IsLong k → IsOfState s k number → Posts s k number next m g x
     → IsOf (kept_at k) (place_of g.entry.slot) g → IsOfState (record s { grants = s.grants ++ x ∷ [] }) (posted m g k) next

@@ -39,6 +39,7 @@ pub record IsRemade (s : State) (e : Event) (count : ℕ) (k l : KeeperView) : T
 
 -- by an event that leaves the grants as they are, where all of them came before the count
 abbrev pub RemadeStays : Type 0
-RemadeStays = (m : Machine) (w : Setting) (past : List Event) (e : Event) (k l : KeeperView) (number : ℕ → Grant → ℕ) (count : ℕ) → w.machine ≡ m → AcceptsOnly m → Lawful m past → Allowed w past e
+RemadeStays = (m : Machine) (w : Setting) (past : List Event) (e : Event) (k l : KeeperView) (number : ℕ → Grant → ℕ) (count : ℕ)
+    → w.machine ≡ m → AcceptsOnly m → Lawful m past → Allowed w past e
     → (step (after past) e).grants ≡ (after past).grants → IsOfState (after past) k number → IsRemade (after past) e count k l
     → ((h : ℕ) (g : Grant) → h < harts_at_most → Stands (row_of k h) g → g.entry.number ≤ count) → IsOfState (step (after past) e) l number

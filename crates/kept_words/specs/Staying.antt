@@ -76,7 +76,8 @@ pub data Settles : Fate → Standing → Type 0 where
   as_lost : (saw : ℕ) → Settles LostFate (Lost saw)
 
 abbrev pub SettledStays : Type 0
-SettledStays = (m : Machine) (events : List Event) (k : KeeperView) (number : ℕ → Grant → ℕ) (h : ℕ) (g : Grant) (fate : Fate) (standing : Standing) → Lawful m events
+SettledStays = (m : Machine) (events : List Event) (k : KeeperView) (number : ℕ → Grant → ℕ) (h : ℕ) (g : Grant) (fate : Fate) (standing : Standing)
+    → Lawful m events
     → IsOfState (after events) k number → IsLong k → h < harts_at_most → (row_of k h).pending ≡ Some g → IsOf (kept_at k) (place_of g.entry.slot) g
     → Settles fate standing → IsOfState (settle (number h g) standing (after events)) (fated_in fate h k) number
 

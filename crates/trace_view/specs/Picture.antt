@@ -140,7 +140,8 @@ mark_text x y colour = circle_text x y ++ fill_text colour
 
 unfoldable pub label_text : ℕ → ℕ → List ℕ → List ℕ → List ℕ
 label_text x y colour words =
-    codes "<text x=\"" ++ decimal x ++ codes "\" y=\"" ++ decimal y ++ codes "\" fill=\"" ++ colour ++ codes "\">" ++ flat_map xml_byte words ++ codes "</text>\n"
+    codes "<text x=\"" ++ decimal x ++ codes "\" y=\"" ++ decimal y ++ codes "\" fill=\"" ++ colour ++ codes "\">"
+    ++ flat_map xml_byte words ++ codes "</text>\n"
 
 -- the mark of an event in the lane of its hart, and its words behind all lanes
 unfoldable pub row_text : List Member → List Lane → Step → List ℕ

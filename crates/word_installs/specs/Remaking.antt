@@ -44,7 +44,8 @@ InstallsMayCome = (w : Setting) (past : List Event) (e : Event) (k : KeeperView)
 
 abbrev pub InstalledIsRemade : Type 0
 InstalledIsRemade = (w : Setting) (past : List Event) (e : Event) (k l : KeeperView) (number : ℕ → Grant → ℕ) (installs : Installs)
-    → ComesNext w past e k number → AreInstallsOf (after past) e installs → taken (after past) e ≡ [] → IsInstalled installs k l → IsRemade (after past) e (length k.events) k l
+    → ComesNext w past e k number → AreInstallsOf (after past) e installs → taken (after past) e ≡ [] → IsInstalled installs k l
+    → IsRemade (after past) e (length k.events) k l
 
 -- with the generation of the state after the event it is the view that the keeper counts the event in
 abbrev pub InstalledIsView : Type 0
@@ -59,7 +60,8 @@ abbrev pub PendingAreThere : KeeperView → Type 0
 PendingAreThere k = (m : ℕ) (g : Grant) → m < harts_at_most → (row_of k m).pending ≡ Some g → IsOf (kept_at k) (place_of g.entry.slot) g
 
 abbrev pub RangesMayGo : Type 0
-RangesMayGo = (w : Setting) (past : List Event) (e : Event) (k : KeeperView) (number : ℕ → Grant → ℕ) → ComesNext w past e k number → IsLong k → PendingAreThere k
+RangesMayGo = (w : Setting) (past : List Event) (e : Event) (k : KeeperView) (number : ℕ → Grant → ℕ)
+    → ComesNext w past e k number → IsLong k → PendingAreThere k
     → MayUnmap k (taken (after past) e)
 
 abbrev pub UnmappedIsRemade : Type 0

@@ -43,7 +43,8 @@ pub record IsFresh (w : Setting) (begun : List Event) (k : KeeperView) : Type 0 
 
 -- its objects may be installed
 abbrev pub StartupMayCome : Type 0
-StartupMayCome = (w : Setting) (begun : List Event) (installs : Installs) (k : KeeperView) → IsStartup w begun installs → IsFresh w begun k → MayInstall k installs
+StartupMayCome = (w : Setting) (begun : List Event) (installs : Installs) (k : KeeperView)
+    → IsStartup w begun installs → IsFresh w begun k → MayInstall k installs
 
 -- and once they are, with the generation of the state, the keeper's record is as it has to be
 abbrev pub StartupKept : Type 0

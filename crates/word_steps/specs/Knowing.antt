@@ -15,12 +15,22 @@ with_joined h k = record k { joined = k.joined ++ h ∷ [] }
 
 -- the keeper was told of a hart's knowledge: it keeps its own list, and the hart's until its next load
 abbrev pub told_of : HartView → KeeperView → KeeperView
-told_of h k = record k { note = Some (record { had = k.events; told = h.heard; number = h.number; entries = known_of h.lane; readings = readings_of h.trail; lazy = 0 }) }
+told_of h k =
+    record k {
+      note = Some (record { had = k.events; told = h.heard; number = h.number; entries = known_of h.lane; readings = readings_of h.trail; lazy = 0 });
+    }
 
 -- a hart was told of the keeper's knowledge: it has the longer list, and keeps both until its next load
 abbrev pub told_by : KeeperView → HartView → HartView
 told_by k h =
     record h {
       heard = longer h.heard k.events;
-      note = Some (record { had = h.heard; told = k.events; number = h.number; entries = (row_of k h.number).issued; readings = []; lazy = (row_of k h.number).lazy });
+      note = Some (record {
+        had = h.heard;
+        told = k.events;
+        number = h.number;
+        entries = (row_of k h.number).issued;
+        readings = [];
+        lazy = (row_of k h.number).lazy;
+      });
     }

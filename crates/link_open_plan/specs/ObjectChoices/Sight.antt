@@ -25,7 +25,8 @@ pub record Shows (s : State) (ns : Seen) (places : List ModulePlace) : Type 0 wh
 
 -- ---- for the code of this crate alone
 
--- the lists are those of what is seen and have the scopes of the new objects, each object has its table and may have an image, and the new ones name symbols of their own
+-- the lists are those of what is seen and have the scopes of the new objects, each object has its table and may have an image,
+-- and the new ones name symbols of their own
 pub record CanSee (x : Sight) : Type 0 where
   pub lists : AreListsOf (seen x.view) x.lists.now
   pub listed : AreListed (seen x.view) (length x.view.objects.now) x.lists.now

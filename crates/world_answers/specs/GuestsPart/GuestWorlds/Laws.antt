@@ -58,8 +58,8 @@ EndsNow = (count : ℕ) (folders : List (List ℕ)) (begun : Bool) (world : Worl
 
 -- and once each hart has ended by exit, before the final destructors, the first one may once more
 abbrev pub FirstEndsNow : Type 0
-FirstEndsNow = (count : ℕ) (folders : List (List ℕ)) (world : World) → MayBeAt count folders false world → IsTrue (harts_have_exited world) → 0 < length world.harts
-    → MayEndNow count world.journal 0
+FirstEndsNow = (count : ℕ) (folders : List (List ℕ)) (world : World)
+    → MayBeAt count folders false world → IsTrue (harts_have_exited world) → 0 < length world.harts → MayEndNow count world.journal 0
 
 -- a hart whose next turn is a call of the linker, and whose grant is settled, may make it, and has fuel for it
 pub record MayCall (count : ℕ) (past : List Event) (h : ℕ) (b : HartState) : Type 0 where
