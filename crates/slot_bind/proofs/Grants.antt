@@ -190,3 +190,6 @@ module _ (k k1 : KeeperView) (m n word : ℕ) (g : Grant) (r : IsResting k) (lon
       saw ∙ ((λ i. losing m (at i) word (with_kept (place_of (at i).entry.slot) (fixed_by word (kept_at (fated i) (place_of (at i).entry.slot))) (fated i)))
       ∙ ap (λ x. losing m (grant_in (row_of k m)) word (with_kept (place_of (row_of k m).slot) x (fated_view m (SaysLost word) k)))
       (subst (λ (q : Grant). fixed_by word (kept_at k (place_of q.entry.slot)) ≡ record (kept_at k (place_of q.entry.slot)) { fixed = Some word }) (told.in_row g pending) seen))
+
+-- what the exchange of a slot comes to
+pub ruleset binding = (bind_ready, bind_won, bind_lost, still_offered, is_tried)

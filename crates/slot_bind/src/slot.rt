@@ -89,7 +89,7 @@ fn offered_grant<J: Naming>(memory: &Memory<J>, seat: &mut HartSeat<J>, offer: &
 }
 
 /// Exchanges the slot's word for the grant's value where it is the lazy word.
-#[tactic(auto, using(crate::proofs::Grants::bind_ready, crate::proofs::Grants::bind_won, crate::proofs::Grants::bind_lost, crate::proofs::Grants::still_offered, crate::proofs::Grants::is_tried))]
+#[tactic(auto, using(crate::proofs::Grants::binding))]
 pub fn bind<J: Naming>(memory: &Memory<J>, seat: &mut HartSeat<J>, offer: &Offer) -> Bound
     requires offered { IsOffered seat.old offer.now }
     requires untried { seat.old.lane.tried ≡ None }

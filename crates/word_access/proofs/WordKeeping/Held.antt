@@ -188,3 +188,8 @@ retires d n r k k1 k2 rest locked is = is ∙ (ap (λ k. keeper_after (retiring 
     go Ro = ap (λ q. with_kept d (record (kept_at k d) { role = NoRole }) q) (rests k rest)
     go Rx = ap (λ q. with_kept d (record (kept_at k d) { role = NoRole }) q) (rests k rest)
     go Rw = ap (λ q. with_kept d (record (kept_at k d) { role = NoRole }) q) (rests k rest)
+
+-- what a lock, and a role's end, each come to
+pub ruleset locking = (lock_ready, locks, locks_not, locks_rw, same_role)
+
+pub ruleset retirement = (retire_ready, retires, retiring_op, retiring_word)

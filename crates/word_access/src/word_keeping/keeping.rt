@@ -37,7 +37,7 @@ fn look<J: Naming>(memory: &Memory<J>, desk: &mut Desk<J>, at: usize) -> Result<
 }
 
 // Locks a doubleword, and answers its role.
-#[tactic(auto, using(crate::proofs::WordKeeping::Held::lock_ready, crate::proofs::WordKeeping::Held::locks, crate::proofs::WordKeeping::Held::locks_not, crate::proofs::WordKeeping::Held::locks_rw, crate::proofs::WordKeeping::Held::same_role))]
+#[tactic(auto, using(crate::proofs::WordKeeping::Held::locking))]
 fn lock<J: Naming>(memory: &Memory<J>, desk: &mut Desk<J>, at: usize) -> Result<Role, Shown>
     requires at { at < doublewords }
     requires resting { IsResting desk.old }
@@ -104,7 +104,7 @@ pub fn set<J: Naming>(
 ///
 /// What shows that another seat has locked it: its role is RW then. Nothing is changed, but that the
 /// keeper's view has it behind what was shown before.
-#[tactic(auto, using(crate::proofs::WordKeeping::Held::retire_ready, crate::proofs::WordKeeping::Held::retires, crate::proofs::WordKeeping::Held::retiring_op, crate::proofs::WordKeeping::Held::retiring_word))]
+#[tactic(auto, using(crate::proofs::WordKeeping::Held::retirement))]
 pub fn retire<J: Naming>(memory: &Memory<J>, desk: &mut Desk<J>, at: usize) -> Result<(), Shown>
     requires at { at < doublewords }
     requires resting { IsResting desk.old }
