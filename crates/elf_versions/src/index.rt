@@ -54,12 +54,23 @@ fn first_unmarked(marks: &[bool], versym: &[u16]) -> Option<usize>
     versym.iter().position(|entry| is_unmarked(marks, *entry))
 }
 
-/// The first symbol whose version index isn't there.
-#[tactic(auto, unfolding(crate::specs::Index::unknown_index))]
+/// The first symbol whose version index isn't there. Without entries for symbols, as where an object has no
+/// versions, nothing is marked.
 pub(crate) fn unknown_index(
     alloc: Global,
     versions: &JudgedVersions,
 ) -> Result<Option<usize>, AllocError>
+    ensures { IfOk result (λ symbol. symbol ≡ unknown_index versions.now) }
+{
+    if versions.versym.is_empty() {
+        return Ok(None);
+    }
+    first_unknown(alloc, versions)
+}
+
+/// The same by marks of all numbers that an index may be.
+#[tactic(auto, unfolding(crate::specs::Index::unknown_index))]
+fn first_unknown(alloc: Global, versions: &JudgedVersions) -> Result<Option<usize>, AllocError>
     ensures { IfOk result (λ symbol. symbol ≡ unknown_index versions.now) }
 {
     let indexes = indexes_of(alloc, &versions.verdefs, &versions.verneeds)?;

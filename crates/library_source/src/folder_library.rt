@@ -18,8 +18,8 @@ use std::rt::Files;
 /// How many bytes of a file are read at most: one more than the longest file that is accepted has.
 pub const READ_LIMIT: usize = 8 * 1024 * 1024 + 1;
 
-/// How many bytes are asked for at a time.
-const PIECE: usize = 64 * 1024;
+/// How many bytes are asked for at a time: most objects are shorter, and so many are set to 0 for each file.
+const PIECE: usize = 16 * 1024;
 
 /// The files of the system. A path that isn't UTF-8 names none of them, and what isn't a regular file
 /// (a folder, a pipe, a device) is a read that failed. No clause tells what a file holds, nor that a path
