@@ -6,6 +6,7 @@ pub mod Entered
 pub mod Framed
 pub mod Grown
 pub mod Inside
+pub mod Journals
 pub mod Listed
 pub mod Made
 pub mod Own

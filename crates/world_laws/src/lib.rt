@@ -18,8 +18,8 @@ mod world_whole;
 pub use hart_ways::harts_follow;
 pub use run_journals::runs_have_journals;
 pub use run_moments::{
-    closings_come_to_return, grants_are_made_by_turns, moments_are_true, turns_are_true,
-    worlds_are_true,
+    closings_come_to_return, grants_are_made_by_turns, journals_are_true, moments_are_true,
+    turns_are_true, worlds_are_true,
 };
 pub use run_once::runs_are_one;
 pub use step_once::steps_are_one;

@@ -6,6 +6,6 @@
 mod law;
 
 pub use law::{
-    closings_come_to_return, grants_are_made_by_turns, moments_are_true, turns_are_true,
-    worlds_are_true,
+    closings_come_to_return, grants_are_made_by_turns, journals_are_true, moments_are_true,
+    turns_are_true, worlds_are_true,
 };

@@ -1,5 +1,5 @@
 -- What comes of a call that is due: of a look-up, and of an exchange behind it.
-use Rattle.std.proofs.Common.{◌≡◌, ℕ, List, [], ◌∷◌, ◌++◌, Some, ap, subst, ◌∙◌}
+use Rattle.std.proofs.Common.{◌≡◌, ℕ, List, [], ◌∷◌, ◌++◌, ap, subst, ◌∙◌}
 use Rattle.ld_base.specs.declared.fault.Shown.{Shown}
 use Rattle.history_event.specs.declared.event.Event.{Event}
 use Rattle.history_event.specs.declared.event.SymAsk.{SymAsk}
@@ -7,13 +7,13 @@ use Rattle.history_event.specs.declared.hart_end.HartEnd.{HartEnd}
 use Rattle.history_state.specs.After.{after}
 use Rattle.history_state.specs.Setting.{Setting}
 use Rattle.history_state.specs.State.{State}
-use Rattle.history_calls.specs.Answer.{Answer, returns, loading, closing, refused, granted, told, again, over}
+use Rattle.history_calls.specs.Answer.{Answer, again, over}
 use Rattle.history_calls.specs.Call.{Call, resolves, opens, looks_up, closes, unmaps, asks_fault, locates, writes, stops}
 use Rattle.history_calls.specs.Ends.{EndsAs}
 use Rattle.history_calls.specs.Gives.{EventAnswers, Gives, ending}
 use Rattle.history_calls.specs.Waiting.{Shows}
 use Rattle.hart_moves.specs.Due.{Due, Return}
-use Rattle.hart_moves.specs.Harts.{HartState, Offered}
+use Rattle.hart_moves.specs.Harts.{HartState}
 use Rattle.hart_moves.specs.Moves.{Calls, Did, TurnFinishes, Moves, MovesAs, Takes, events_of}
 use Rattle.world_laws.specs.RunMoments.OfTurns.{AnswersLookUp, EntersItsSlot, FindsSo}
 

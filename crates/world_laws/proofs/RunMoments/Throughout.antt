@@ -6,7 +6,7 @@ use Rattle.history_event.specs.declared.event.Event.{Event}
 use Rattle.history_calls.specs.declared.link_served.startup.Setup.{Setup}
 use Rattle.history_state.specs.Accepted.{AcceptsOnly}
 use Rattle.history_state.specs.After.{after}
-use Rattle.history_state.specs.Laws.{BlocksAreApart, GrantsAreHeld, ImagesAreMapped, LoadsEnterCode, SlotsBegin, SlotsEnterCode, SlotsLeadToRx, slot_address}
+use Rattle.history_state.specs.Laws.{ImagesAreMapped, LoadsEnterCode, SlotsBegin, SlotsEnterCode, SlotsLeadToRx, slot_address}
 use Rattle.history_state.specs.Legal.{Lawful, Legal}
 use Rattle.history_state.specs.Setting.{Machine, Setting}
 use Rattle.history_state.specs.State.{Linked}
@@ -27,20 +27,17 @@ use Rattle.world_turns.specs.World.{World, found_journal, settling, winners}
 use Rattle.world_laws.specs.WorldSlots.Later.{IsReached, Later, Part, Steps}
 use Rattle.world_laws.specs.WorldSlots.Laws.{LaterIsSound, LaterKeepsSlots, RunsGoOn}
 use Rattle.world_laws.specs.WorldSlots.Lemmas.Joined.{joined}
-use Rattle.world_laws.specs.RunMoments.Laws.{IsTrueThroughout, ReachedIsTrue, ReachedStaysTrue, RunsAreTrue, TurnsAreTrue}
-use Rattle.world_laws.specs.RunMoments.OfJournal.{ChoicesAreTrue, HistoryIsTrue, StorageIsTrue}
+use Rattle.world_laws.specs.RunMoments.Laws.{IsTrueThroughout, JournalsAreTrue, ReachedIsTrue, ReachedStaysTrue, RunsAreTrue, TurnsAreTrue}
 use Rattle.world_laws.specs.RunMoments.OfWords.{SlotsAreTrue}
 use Rattle.world_laws.specs.RunMoments.True.{ClosesItsOwn, IsTrueAt, StaysTrue}
 use Rattle.world_laws.proofs.RunMoments.Answered.{answers_look_up, enters_its_slot}
-use Rattle.world_laws.proofs.RunMoments.Chosen.{was_chosen, was_granted}
-use Rattle.world_laws.proofs.RunMoments.Closed.{was_closed}
 use Rattle.world_laws.proofs.RunMoments.Ended.{AllAreTold, last_ends, later_told, start_told}
-use Rattle.world_laws.proofs.RunMoments.Entered.{SlotLaws, chosen_code, leads_so}
+use Rattle.world_laws.proofs.RunMoments.Entered.{SlotLaws, leads_so}
 use Rattle.world_laws.proofs.RunMoments.Framed.{FrameLaws, closes_own, later_stands, stands_sound, start_stands}
 use Rattle.world_laws.proofs.RunMoments.Grown.{later_has_more}
 use Rattle.world_laws.proofs.RunMoments.Inside.{grants_in_calls}
 use Rattle.world_laws.proofs.RunMoments.Made.{grants_made}
-use Rattle.world_laws.proofs.RunMoments.Own.{finds_own, locates_own}
+use Rattle.world_laws.proofs.RunMoments.Own.{locates_own}
 use Rattle.world_laws.proofs.RunMoments.Standing.{closings_stand}
 use Rattle.world_laws.proofs.RunMoments.Unmapped.{UnmapLaws, answers_dlclose, returns_behind}
 
@@ -71,13 +68,12 @@ pub record MomentLaws (m : Machine) : Type 0 where
   pub mapped : (journal : List Event) → Lawful m journal → Mapped (after journal)
   pub images : (journal : List Event) → Lawful m journal → ImagesAreMapped (after journal)
   pub begins : (journal : List Event) → Lawful m journal → SlotsBegin (after journal)
-  pub held : (journal : List Event) → Lawful m journal → GrantsAreHeld (after journal)
   pub leads : (journal : List Event) → Lawful m journal → SlotsLeadToRx (after journal)
   pub grants : (journal : List Event) → Lawful m journal → SlotsEnterCode (after journal)
   pub loads : (journal : List Event) → Lawful m journal → LoadsEnterCode (after journal)
   pub stands : (journal : List Event) (i : Linked) (slot : ℕ) (r : Reloc) → Lawful m journal → Contains (after journal).images i
       → slice_get i.object.plt_relocs slot ≡ Some r → IsSlotAt (after journal) (slot_address i r) i.serial slot
-  pub apart : (journal : List Event) → Lawful m journal → BlocksAreApart m (after journal)
+  pub journals : JournalsAreTrue
   pub slot_true : SoundIsSlotTrue
   pub sound : LaterIsSound
   pub slots : LaterKeepsSlots
@@ -98,32 +94,6 @@ module _ (w : Setting) (laws : MomentLaws w.machine) (only : AcceptsOnly w.machi
     stands = λ i slot r there at. laws.stands journal i slot r lawful there at;
   }
 
-  history_true : (journal : List Event) → Legal w journal → HistoryIsTrue w journal
-  history_true journal legal =
-      let lawful = legal_is_lawful w journal legal in
-      let begins = laws.begins journal lawful in
-      record {
-        legal = legal;
-        mapped = laws.images journal lawful;
-        first_words = record {
-          at_load = λ i slot value r there at got. begins.at_load i slot value r there at got (load_word w.machine journal lawful i.serial slot value got);
-          lazy = begins.lazy;
-        };
-      }
-
-  choices_true : (journal : List Event) → Legal w journal → ChoicesAreTrue journal
-  choices_true journal legal =
-      let lawful = legal_is_lawful w journal legal in
-      record {
-        granted = was_granted w journal legal;
-        chosen = was_chosen w journal legal;
-        held = laws.held journal lawful;
-        enter = λ g there kept home.
-            chosen_code laws.pages (after journal) (laws.mapped journal lawful) (laws.images journal lawful) g.choice g.value
-            (grant_word laws.load w.machine journal lawful g there)
-            (laws.grants journal lawful g there kept home);
-      }
-
   slots_true : (world : World) → Sound w world → SlotsAreTrue (after world.journal) (winners world.harts) (memory_of world.words)
   slots_true world sound =
       let slots = laws.slot_true w world only sound in
@@ -136,9 +106,6 @@ module _ (w : Setting) (laws : MomentLaws w.machine) (only : AcceptsOnly w.machi
             ((memory_of world.words).value (slot_address i r)) (slots.holds i slot r there at);
       }
 
-  storage_true : (journal : List Event) → Legal w journal → StorageIsTrue w journal
-  storage_true journal legal = record { blocks = laws.apart journal (legal_is_lawful w journal legal); finds = finds_own w journal legal }
-
   -- what is settled first leaves the journal legal
   found_legal : (world : World) → Sound w world → (part : Part) (t : Bool) → Legal w (world.journal ++ cond t (settling world.harts) [])
   found_legal world sound part true =
@@ -148,11 +115,8 @@ module _ (w : Setting) (laws : MomentLaws w.machine) (only : AcceptsOnly w.machi
 
   true_at : (part : Part) (world : World) → Sound w world → ClosesItsOwn world → AllAreTold world → IsTrueAt w world
   true_at part world sound own told = record {
-    history = history_true world.journal sound.legal;
-    choices = choices_true world.journal sound.legal;
+    journal = laws.journals w world.journal only sound.legal;
     slots = slots_true world sound;
-    storage = storage_true world.journal sound.legal;
-    closings = was_closed w world.journal sound.legal;
     harts = record { all = sound.harts; fits = sound.fits; closes_own = own; ends = λ h b reason at over. (told h b at).over reason over };
     next = λ h b c did at moves. laws.turns w (found_journal world did) h b c did only (found_legal world sound part (settles did)) moves;
   }

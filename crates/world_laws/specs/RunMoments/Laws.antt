@@ -1,4 +1,4 @@
--- What holds of each world that a run may come to, and from each to each later one; and so of each run.
+-- What holds of each legal journal, of each world that a run may come to, and from each to each later one; and so of each run.
 use Rattle.std.specs.Prelude.{◌≡◌, ℕ, ◌<◌, ◌≤◌, List, length, map, Some}
 use Rattle.std.specs.List.{slice_get}
 use Rattle.ld_base.specs.declared.linking.Choice.{Choice}
@@ -17,10 +17,17 @@ use Rattle.world_turns.specs.declared.schedules.schedule.TurnItem.{TurnItem}
 use Rattle.world_turns.specs.Run.{Run}
 use Rattle.world_turns.specs.Turn.{Turn}
 use Rattle.world_turns.specs.World.{World, found_journal}
+use Rattle.world_laws.specs.RunMoments.OfJournal.{JournalIsTrue}
 use Rattle.world_laws.specs.RunMoments.OfTurns.{ClosingStands, IsGrantedInCall, ReturnsUnmapped, TurnIsTrue}
 use Rattle.world_laws.specs.RunMoments.True.{IsTrueAt, StaysTrue}
 use Rattle.world_laws.specs.WorldSlots.Later.{IsReached, Later, Part}
 use Rattle.world_laws.specs.WorldSlots.Laws.{GoesOn}
+
+-- ---- a journal
+
+-- whoever kept it, on one thread or on many
+abbrev pub JournalsAreTrue : Type 0
+JournalsAreTrue = (w : Setting) (journal : List Event) → AcceptsOnly w.machine → Legal w journal → JournalIsTrue w journal
 
 -- ---- a turn
 

@@ -131,6 +131,14 @@ pub record WasClosed (journal : List Event) (c : Closing) : Type 0 where
 abbrev pub ClosingsAreTrue : List Event → Type 0
 ClosingsAreTrue journal = (c : Closing) → Contains (after journal).closings c → WasClosed journal c
 
+-- ---- all of these
+
+pub record JournalIsTrue (w : Setting) (journal : List Event) : Type 0 where
+  pub history : HistoryIsTrue w journal
+  pub choices : ChoicesAreTrue journal
+  pub storage : StorageIsTrue w journal
+  pub closings : ClosingsAreTrue journal
+
 -- ---- from one moment to a later one
 
 -- the journal has the earlier one in front

@@ -12,7 +12,7 @@ use Rattle.trace_text.specs.RunTexts.Ends.{last_end}
 use Rattle.world_turns.specs.Memory.{memory_of}
 use Rattle.world_turns.specs.Sound.{Fits}
 use Rattle.world_turns.specs.World.{World, found_journal, winners}
-use Rattle.world_laws.specs.RunMoments.OfJournal.{ChoicesAreTrue, ClosingsAreTrue, HasMore, HistoryIsTrue, StorageIsTrue}
+use Rattle.world_laws.specs.RunMoments.OfJournal.{HasMore, JournalIsTrue}
 use Rattle.world_laws.specs.RunMoments.OfTurns.{TurnIsTrue}
 use Rattle.world_laws.specs.RunMoments.OfWords.{SlotsAreTrue, SlotsStay}
 
@@ -35,11 +35,8 @@ pub record HartsAreTrue (w : Setting) (world : World) : Type 0 where
 -- ---- one moment
 
 pub record IsTrueAt (w : Setting) (world : World) : Type 0 where
-  pub history : HistoryIsTrue w world.journal
-  pub choices : ChoicesAreTrue world.journal
+  pub journal : JournalIsTrue w world.journal
   pub slots : SlotsAreTrue (after world.journal) (winners world.harts) (memory_of world.words)
-  pub storage : StorageIsTrue w world.journal
-  pub closings : ClosingsAreTrue world.journal
   pub harts : HartsAreTrue w world
   -- whichever hart moves next, behind what is settled first where it asks for a service
   pub next : (h : ℕ) (b c : HartState) (did : Did) → slice_get world.harts h ≡ Some b → Moves w (found_journal world did) h b did c

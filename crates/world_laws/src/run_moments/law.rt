@@ -1,6 +1,23 @@
 //! What is true of each world that a run may come to.
 
-ghost use Rattle.world_laws.specs.RunMoments.Laws.{ClosingsComeToReturn, GrantsAreMadeByTurns, ReachedIsTrue, ReachedStaysTrue, RunsAreTrue, TurnsAreTrue};
+ghost use Rattle.world_laws.specs.RunMoments.Laws.{ClosingsComeToReturn, GrantsAreMadeByTurns, JournalsAreTrue, ReachedIsTrue, ReachedStaysTrue, RunsAreTrue, TurnsAreTrue};
+
+/// A legal journal is a true history, whoever kept it: what each slot was bound to the rules chose at one
+/// moment, and it enters the very object that was chosen; blocks of thread-local storage are apart, and
+/// look-ups count from the hart's own; what is to be unmapped died by one closing, when nothing needed it.
+pub fn journals_are_true()
+    ensures { JournalsAreTrue }
+{
+    scope_rule::serials_follow();
+    scope_rule::found_stands();
+    scope_rule::reads_candidates();
+    seg_image::pages_hold_segments();
+    history_state::images_are_mapped();
+    history_state::slots_begin();
+    history_state::blocks_are_apart();
+    history_state::grants_are_held();
+    history_state::slots_enter_code();
+}
 
 /// Behind any legal journal a hart's turn is true: each grant that it appends is made inside the hart's own
 /// call of the slot's resolver, its call of `__tls_get_addr` answers the address of the variable in its own
@@ -14,11 +31,9 @@ pub fn turns_are_true()
     hart_moves::closings_unmap_first();
 }
 
-/// In each world that turns lead to from a start, in whichever order the harts take them, the journal is one
-/// legal history; what each slot was bound to the rules chose at one moment; each slot of a mapped object
-/// holds what it should and enters the very object that was chosen, which is mapped; blocks of thread-local
-/// storage are apart, and look-ups count from the hart's own; what is to be unmapped died by one closing,
-/// when nothing needed it; harts have ended as their last Ended events say; and the next turn is true. From
+/// In each world that turns lead to from a start, in whichever order the harts take them, the journal is a
+/// true legal history; each slot of a mapped object holds what it should and enters the very object that was
+/// chosen, which is mapped; harts have ended as their last Ended events say; and the next turn is true. From
 /// each such world to each later one the journal grows, and a slot that isn't lazy reads the same while its
 /// object is mapped.
 pub fn worlds_are_true()
@@ -31,8 +46,6 @@ pub fn worlds_are_true()
     seg_image::pages_hold_segments();
     history_state::images_are_mapped();
     history_state::slots_begin();
-    history_state::blocks_are_apart();
-    history_state::grants_are_held();
     history_state::slots_lead_to_rx();
     history_state::slots_enter_code();
     history_state::loads_enter_code();
@@ -44,6 +57,7 @@ pub fn worlds_are_true()
     world_turns::runs_start_sound();
     world_turns::slots_are_true();
     crate::world_slots::later_worlds_keep_slots();
+    journals_are_true();
     turns_are_true();
 }
 
