@@ -14,6 +14,7 @@ use Rattle.link_names.specs.Leaving.{LowersAlone, OpensAgain, counts_still}
 use Rattle.link_names.specs.declared.kept.KeptLists.{KeptLists}
 use Rattle.link_spaces.specs.Numbered.{AreNumberedApart}
 use Rattle.scope_rule.specs.Breadth.{breadth, first_kept, has, level, levels, without}
+use Rattle.scope_rule.specs.Choose.{first_with}
 use Rattle.scope_rule.specs.Loading.{found_of, is_dying, is_dying_at}
 use Rattle.scope_rule.specs.Opening.{opened, raised}
 use Rattle.scope_rule.specs.Scope.{opened_with, scope, whole_scope}
@@ -79,7 +80,10 @@ module _ (s : Seen) (opens : List OpenRec) (same : map root_of opens ≡ map roo
   roots_stay lists are = record {
     links = record { places = are.links.places; found = are.links.found; all = are.links.all };
     names = are.names;
-    scopes = λ place o found at has. are.scopes place o found at has ∙ sym (same_scope o);
+    scopes = record {
+      global = are.scopes.global;
+      each = λ place o found at has. (let was = are.scopes.each place o found at has in record { alike = λ pick. was.alike pick ∙ ap (first_with pick) (sym (same_scope o)); placed = was.placed });
+    };
   }
 
 -- ---- a change that leaves the lists of each namespace

@@ -87,7 +87,7 @@ all_linked s all found is are q x there some = by (q == 0) there
 
 -- ---- what each of a list passes
 
-each_passes : (p : ℕ → Bool) (xs : List ℕ) (x : ℕ) → list_all p xs ≡ true → has xs x ≡ true → p x ≡ true
+pub each_passes : (p : ℕ → Bool) (xs : List ℕ) (x : ℕ) → list_all p xs ≡ true → has xs x ≡ true → p x ≡ true
 each_passes p [] x all there = absurd (cc there)
 each_passes p (y ∷ ys) x all there =
     let parts = and_parts (p y) (list_all p ys) all in

@@ -2,7 +2,8 @@
 use Rattle.std.proofs.Common.{◌≡◌, ℕ, zero, suc, ◌+◌, ◌<◌, ◌≤◌, ◌==◌, Bool, true, false, cond, inl, inr, List, [], ◌∷◌, ◌++◌, length, map, take, refl, subst, sym, ap, append-nil, eq-eqb, get_or, ◌∙◌, append_assoc, length-take-le, arith}
 use Rattle.std.specs.Prelude.{nat_eq, not, ◌||◌, filter, flat_map, option_map, position, unwrap_or, IfOk, IsSome, OnOk, Option, Some, None, Result, Ok, Err}
 use Rattle.std.specs.declared.alloc.AllocError.{AllocError}
-use Rattle.std.specs.List.{find, list_any, position_or_len, slice_get}
+use Rattle.std.specs.Map.{lookup}
+use Rattle.std.specs.List.{AllByRecursion, find, list_any, position_or_len, slice_get}
 use Rattle.std.specs.Option.{option_or, is_some}
 use Rattle.std.proofs.lemmas.Bool.{cases_Bool, eqb-true}
 use Rattle.std.proofs.lemmas.Grind.{common_steps, flat_map-append}
@@ -14,16 +15,21 @@ use Rattle.std.proofs.lemmas.List.Sums.{prefix_len-le-length}
 use Rattle.ld_base.specs.declared.linking.Loaded.{Loaded}
 use Rattle.scope_rule.specs.Loading.{found_of, is_dying, is_dying_at, object_of, with_serial}
 use Rattle.scope_rule.specs.Breadth.{breadth, extend}
-use Rattle.scope_rule.specs.Scope.{scope}
+use Rattle.scope_rule.specs.Choose.{first_with}
 use Rattle.scope_rule.specs.Seen.{Seen}
 use Rattle.scope_rule.specs.declared.namespace.OpenRec.{OpenRec}
 use Rattle.scope_lists.specs.Brought.{brought_to}
-use Rattle.scope_lists.specs.Kept.{AreScopes, KeepsAll, kept_at}
+use Rattle.scope_lists.specs.Kept.{ArePlaced, AreScopes, IsScope, KeepsAll, entry_in, entry_of, kept_at, kept_in}
 use Rattle.scope_lists.specs.Links.{found_once}
-use Rattle.scope_lists.specs.Lists.{AreListed, AreListsOf, IsListed, IsListedAt, at_place}
-use Rattle.scope_lists.specs.Places.{place_in, place_of, serials, serials_of}
+use Rattle.scope_lists.specs.Lists.{AreListed, AreListsOf, ArePartsOf, IsListed, IsListedAt, IsSearched, at_place}
+use Rattle.scope_lists.specs.Places.{ArePlaces, place_in, place_of, serials, serials_of}
+use Rattle.scope_lists.specs.Searched.{in_parts, serials_in}
+use Rattle.scope_lists.specs.declared.kept.KeptScope.{KeptScope}
 use Rattle.scope_lists.specs.declared.kept.KeptScopes.{KeptScopes}
 use Rattle.scope_lists.specs.declared.lists.SearchLists.{SearchLists}
+use Rattle.scope_lists.specs.declared.places.Places.{Places}
+use Rattle.scope_lists.specs.declared.searched.ScopeParts.{ScopeParts}
+use Rattle.scope_lists.specs.declared.searched.Searched.{Searched}
 use Rattle.scope_lists.specs.VersionPlaces.Places.{places_of}
 use Rattle.scope_lists.specs.declared.version_places.names.VersionPlace.{VersionPlace}
 
@@ -183,41 +189,80 @@ names_there objects names k o are here = ap (λ (ns : List (List (Option Version
 -- ---- scopes that are kept
 
 -- one more is kept
-pub one_kept : (s : Seen) (old new : KeptScopes) (k : ℕ) (o : Loaded) (list : List ℕ) → AreScopes s old → slice_get s.objects k ≡ Some o → list ≡ scope s o
-    → ((q : ℕ) → kept_at new q ≡ cond (nat_eq k q) (Some list) (kept_at old q)) → AreScopes s new
-one_kept s old new k o list are there right updates q other found here has =
-    elim (cases_Bool (nat_eq k q)) [
-      | inl same ↦
-          let e : k ≡ q = eqb-true k q same in
-          let one : Some list ≡ Some found = ap (λ b. cond b (Some list) (kept_at old q)) (sym same) ∙ sym (updates q) ∙ has in
-          let is : list ≡ found = cc one in
-          let two : Some o ≡ Some other = sym there ∙ ap (slice_get s.objects) e ∙ here in
-          let home : o ≡ other = cc two in
-          sym is ∙ right ∙ ap (scope s) home
-      | inr apart ↦ are q other found here (sym (updates q ∙ ap (λ b. cond b (Some list) (kept_at old q)) apart) ∙ has)
-    ]
-
-pub keeps_all : (old new : KeptScopes) (k : ℕ) (list : List ℕ) → ((q : ℕ) → kept_at new q ≡ cond (nat_eq k q) (Some list) (kept_at old q)) → KeepsAll old new
-keeps_all old new k list updates q has =
-    elim (cases_Bool (nat_eq k q)) [
-      | inl same ↦ subst IsSome (sym (updates q ∙ ap (λ b. cond b (Some list) (kept_at old q)) same)) refl
-      | inr apart ↦ subst IsSome (sym (updates q ∙ ap (λ b. cond b (Some list) (kept_at old q)) apart)) has
-    ]
-
-pub is_there : (old new : KeptScopes) (k : ℕ) (list : List ℕ) → ((q : ℕ) → kept_at new q ≡ cond (nat_eq k q) (Some list) (kept_at old q)) → IsSome (kept_at new k)
-is_there old new k list updates = subst IsSome (sym (updates k ∙ ap (λ b. cond b (Some list) (kept_at old k)) (eq-eqb k k refl))) refl
-
--- what is kept of an object is its scope
-pub kept_scope : (s : Seen) (kept : KeptScopes) (k : ℕ) (o : Loaded) → AreScopes s kept → IsSome (kept_at kept k) → slice_get s.objects k ≡ Some o → unwrap_or (kept_at kept k) [] ≡ scope s o
-kept_scope s kept k o are has here = by (kept_at kept k) refl has
+pub one_kept : (s : Seen) (old new : KeptScopes) (k : ℕ) (o : Loaded) (one : KeptScope) → AreScopes s old → new.global.items ≡ old.global.items → slice_get s.objects k ≡ Some o → IsScope s old.global.items o one
+    → ((q : ℕ) → kept_at new q ≡ cond (nat_eq k q) (Some one) (kept_at old q)) → AreScopes s new
+one_kept s old new k o one are same there right updates = record {
+  global = same ∙ are.global;
+  each = λ q other found here has. subst (λ (g : List Searched). IsScope s g other found) (sym same) (by q other found here has);
+}
   where
-    by : (x : Option (List ℕ)) → kept_at kept k ≡ x → IsSome x → unwrap_or x [] ≡ scope s o
-    by (Some found) is some = are k o found here is
+    by : (q : ℕ) (other : Loaded) (found : KeptScope) → slice_get s.objects q ≡ Some other → kept_at new q ≡ Some found → IsScope s old.global.items other found
+    by q other found here has =
+        elim (cases_Bool (nat_eq k q)) [
+          | inl own ↦
+              let e : k ≡ q = eqb-true k q own in
+              let two : Some one ≡ Some found = ap (λ b. cond b (Some one) (kept_at old q)) (sym own) ∙ sym (updates q) ∙ has in
+              let is : one ≡ found = cc two in
+              let both : Some o ≡ Some other = sym there ∙ ap (slice_get s.objects) e ∙ here in
+              let home : o ≡ other = cc both in
+              subst (λ (x : Loaded). IsScope s old.global.items x found) home (subst (IsScope s old.global.items o) is right)
+          | inr apart ↦ are.each q other found here (sym (updates q ∙ ap (λ b. cond b (Some one) (kept_at old q)) apart) ∙ has)
+        ]
+
+pub unchanged_kept : (s : Seen) (old new : KeptScopes) → AreScopes s old → new.global.items ≡ old.global.items → new.by_place.entries ≡ old.by_place.entries → AreScopes s new
+unchanged_kept s old new are same entries = record {
+  global = same ∙ are.global;
+  each = λ place o found here has. subst (λ (g : List Searched). IsScope s g o found) (sym same) (are.each place o found here (ap (lookup (nat_eq place)) (sym entries) ∙ has));
+}
+
+pub keeps_all : (old new : KeptScopes) (k : ℕ) (one : KeptScope) → ((q : ℕ) → kept_at new q ≡ cond (nat_eq k q) (Some one) (kept_at old q)) → KeepsAll old new
+keeps_all old new k one updates q has =
+    elim (cases_Bool (nat_eq k q)) [
+      | inl same ↦ subst IsSome (sym (updates q ∙ ap (λ b. cond b (Some one) (kept_at old q)) same)) refl
+      | inr apart ↦ subst IsSome (sym (updates q ∙ ap (λ b. cond b (Some one) (kept_at old q)) apart)) has
+    ]
+
+pub is_there : (old new : KeptScopes) (k : ℕ) (one : KeptScope) → ((q : ℕ) → kept_at new q ≡ cond (nat_eq k q) (Some one) (kept_at old q)) → IsSome (kept_at new k)
+is_there old new k one updates = subst IsSome (sym (updates k ∙ ap (λ b. cond b (Some one) (kept_at old k)) (eq-eqb k k refl))) refl
+
+-- what stands where it is noted is found there
+all_searched : (s : Seen) (xs : List Searched) → ArePlaced (serials_of s) xs → AllByRecursion (IsSearched s) xs
+all_searched s [] all = tt
+all_searched s (x ∷ xs) all = (placed s x.serial x.place all.0, all_searched s xs all.1)
+
+-- objects as they are noted
+abbrev with_place : ℕ → Option ℕ → Searched
+with_place serial place = record { serial = serial; place = place }
+
+pub entries_noted : (xs : List ℕ) (places : Places) → ArePlaces xs places → (ys : List ℕ) → map (entry_of places) ys ≡ map (entry_in xs) ys
+entries_noted xs places are [] = refl
+entries_noted xs places are (y ∷ ys) =
+    ap (λ (place : Option ℕ). with_place y place ∷ map (entry_of places) ys) (are y) ∙ ap (λ (l : List Searched). entry_in xs y ∷ l) (entries_noted xs places are ys)
+
+-- what is kept of an object are the parts of its scope
+pub kept_parts : (s : Seen) (lists : SearchLists) (k : ℕ) (o : Loaded) (parts : ScopeParts) → AreListsOf s lists → IsListedAt lists k → slice_get s.objects k ≡ Some o
+    → ((found : KeptScope) → kept_at lists.scopes k ≡ Some found → in_parts parts ≡ kept_in lists.scopes.global.items found) → ArePartsOf s o parts
+kept_parts s lists k o parts are has here gives = by (kept_at lists.scopes k) refl has
+  where
+    global : List Searched
+    global = lists.scopes.global.items
+
+    by : (x : Option KeptScope) → kept_at lists.scopes k ≡ x → IsSome x → ArePartsOf s o parts
+    by (Some found) is some =
+        let one : IsScope s global o found = are.scopes.each k o found here is in
+        let same : in_parts parts ≡ kept_in global found = gives found is in
+        record {
+          alike = λ pick. ap (λ (xs : List Searched). first_with pick (serials_in xs)) same ∙ one.alike pick;
+          places = subst (AllByRecursion (IsSearched s)) (sym same) (all_searched s (kept_in global found) one.placed);
+        }
     by None is some = absurd (cc some)
 
 -- none is kept at first
-pub none_kept : (s : Seen) (kept : KeptScopes) → ((place : ℕ) → kept_at kept place ≡ None) → AreScopes s kept
-none_kept s kept none place o found here has = absurd (let no : None ≡ Some found = sym (none place) ∙ has in cc no)
+pub none_kept : (s : Seen) (places : Places) (kept : KeptScopes) → ArePlaces (serials_of s) places → kept.global.items ≡ map (entry_of places) s.global → ((place : ℕ) → kept_at kept place ≡ None) → AreScopes s kept
+none_kept s places kept are global none = record {
+  global = global ∙ entries_noted (serials_of s) places are s.global;
+  each = λ place o found here has. absurd (let no : None ≡ Some found = sym (none place) ∙ has in cc no);
+}
 
 -- where the objects stand of any namespace is the same
 listed : (s : Seen) (before after : SearchLists) (q k : ℕ) → AreListsOf s before → AreListsOf s after → place_of before.links.places q ≡ Some k → ((o : Loaded) → slice_get s.objects k ≡ Some o → IsListedAt after k) → IsListed after q

@@ -1,18 +1,20 @@
 -- Lists don't tell of the states of objects.
-use Rattle.std.proofs.Common.{◌≡◌, ℕ, zero, suc, Bool, true, false, cond, List, [], ◌∷◌, ◌++◌, length, map, refl, sym, ap, ◌∙◌}
+use Rattle.std.proofs.Common.{◌≡◌, ℕ, zero, suc, Bool, true, false, cond, List, [], ◌∷◌, ◌++◌, length, map, refl, subst, sym, ap, ◌∙◌}
 use Rattle.std.specs.Prelude.{◌==◌, ◌||◌, not, filter, flat_map, option_map, slice_get, Option, Some, None}
 use Rattle.std.proofs.lemmas.Option.{slice_get-map}
 use Rattle.ld_base.specs.declared.linking.Loaded.{Loaded}
 use Rattle.ld_base.specs.declared.linking.State.{State}
 use Rattle.scope_rule.specs.Breadth.{breadth, extend, has, order_to}
+use Rattle.scope_rule.specs.Choose.{first_with}
 use Rattle.scope_rule.specs.Loading.{found_of, is_dying, is_dying_at, object_of, with_serial}
 use Rattle.scope_rule.specs.Scope.{opened_with, scope, whole_scope}
 use Rattle.scope_rule.specs.Seen.{Seen}
 use Rattle.scope_rule.specs.declared.namespace.OpenRec.{OpenRec}
-use Rattle.scope_lists.specs.Kept.{AreScopes}
+use Rattle.scope_lists.specs.Kept.{ArePlaced, AreScopes, IsScope, entry_in, kept_at, kept_in}
 use Rattle.scope_lists.specs.Links.{found_once}
 use Rattle.scope_lists.specs.Lists.{AreListsOf, ChangesStateAlone}
 use Rattle.scope_lists.specs.Places.{place_in, serials}
+use Rattle.scope_lists.specs.declared.kept.KeptScope.{KeptScope}
 use Rattle.scope_lists.specs.declared.kept.KeptScopes.{KeptScopes}
 use Rattle.scope_lists.specs.declared.lists.SearchLists.{SearchLists}
 use Rattle.scope_lists.specs.VersionPlaces.Places.{places_of}
@@ -133,14 +135,21 @@ module _ (change : Loaded → Loaded) (alone : (o : Loaded) → ChangesStateAlon
         ap (λ (x : Loaded). names_in x ∷ map names_in (map change rest)) (alone o).rest ∙ ap (λ (ls : List (List (Option VersionPlace))). names_in o ∷ ls) (same_names rest)
 
     same_kept : (kept : KeptScopes) → AreScopes s kept → AreScopes Then kept
-    same_kept kept are place o found at has = by (slice_get s.objects place) refl
+    same_kept kept are = record {
+      global = are.global ∙ ap (λ (l : List ℕ). map (entry_in l) s.global) (sym (same_serials s.objects));
+      each = λ place o found at has. by place o found at has (slice_get s.objects place) refl;
+    }
       where
-        by : (x : Option Loaded) → slice_get s.objects place ≡ x → found ≡ scope Then o
-        by None is = absurd (let no : None ≡ Some o = ap (option_map change) (sym is) ∙ sym (slice_get-map change s.objects place) ∙ at in cc no)
-        by (Some before) is =
+        by : (place : ℕ) (o : Loaded) (found : KeptScope) → slice_get Then.objects place ≡ Some o → kept_at kept place ≡ Some found → (x : Option Loaded) → slice_get s.objects place ≡ x → IsScope Then kept.global.items o found
+        by place o found at has None is = absurd (let no : None ≡ Some o = ap (option_map change) (sym is) ∙ sym (slice_get-map change s.objects place) ∙ at in cc no)
+        by place o found at has (Some before) is =
             let both : Some (change before) ≡ Some o = ap (option_map change) (sym is) ∙ sym (slice_get-map change s.objects place) ∙ at in
             let same : change before ≡ o = cc both in
-            are place before found is has ∙ sym (same_scope before) ∙ ap (scope Then) same
+            let was : IsScope s kept.global.items before found = are.each place before found is has in
+            record {
+              alike = λ pick. was.alike pick ∙ ap (first_with pick) (sym (same_scope before) ∙ ap (scope Then) same);
+              placed = subst (λ (l : List ℕ). ArePlaced l (kept_in kept.global.items found)) (sym (same_serials s.objects)) was.placed;
+            }
 
     pub stay : (lists : SearchLists) → AreListsOf s lists → AreListsOf Then lists
     stay lists are = record {

@@ -1,8 +1,10 @@
 pub mod Asking
 pub mod Brought
+pub mod Covering
 pub mod Kept
 pub mod Links
 pub mod Lists
 pub mod Owners
 pub mod Places
+pub mod Searched
 pub mod VersionPlaces

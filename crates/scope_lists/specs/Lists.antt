@@ -1,12 +1,17 @@
 -- Search lists: where the references of objects are searched, and where the names of their versions stand.
 use Rattle.std.specs.Prelude.{◌≡◌, ℕ, ◌≤◌, map, slice_get, IsSome, Option, Some, None}
+use Rattle.std.specs.List.{AllByRecursion}
 use Rattle.ld_base.specs.declared.linking.Loaded.{Loaded}
-use Rattle.scope_rule.specs.Loading.{is_dying}
+use Rattle.scope_rule.specs.Loading.{is_dying, object_of}
+use Rattle.scope_rule.specs.Scope.{scope}
 use Rattle.scope_rule.specs.Seen.{Seen}
 use Rattle.scope_lists.specs.Kept.{AreScopes, kept_at}
 use Rattle.scope_lists.specs.Links.{AreLinks}
 use Rattle.scope_lists.specs.Places.{place_of}
+use Rattle.scope_lists.specs.Searched.{FindsAlike, in_parts, serials_in}
 use Rattle.scope_lists.specs.declared.lists.SearchLists.{SearchLists}
+use Rattle.scope_lists.specs.declared.searched.ScopeParts.{ScopeParts}
+use Rattle.scope_lists.specs.declared.searched.Searched.{Searched}
 use Rattle.scope_lists.specs.VersionPlaces.Places.{places_of}
 
 -- the lists are of what is seen of a namespace: they know what its objects lead to, where the names of their versions stand, and of some the Scope
@@ -31,6 +36,15 @@ AreListed s first lists = (place : ℕ) (o : Loaded) → first ≤ place → sli
 abbrev pub at_place : Seen → Option ℕ → Option Loaded
 at_place s (Some place) = slice_get s.objects place
 at_place s None = None
+
+-- an object that is searched stands where the one of its serial does
+abbrev pub IsSearched : Seen → Searched → Type 0
+IsSearched s x = at_place s x.place ≡ object_of s x.serial
+
+-- a search of these parts finds what one of an object's Scope does, and their objects stand where those of their serials do
+pub record ArePartsOf (s : Seen) (o : Loaded) (parts : ScopeParts) : Type 0 where
+  pub alike : FindsAlike (serials_in (in_parts parts)) (scope s o)
+  pub places : AllByRecursion (IsSearched s) (in_parts parts)
 
 -- an object but for its state; it is closing exactly where it was
 pub record ChangesStateAlone (before after : Loaded) : Type 0 where

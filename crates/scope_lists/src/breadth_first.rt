@@ -55,7 +55,7 @@ fn extend_by_level(
 }
 
 /// Whether the order has each of some objects.
-fn has_each(order: &IndexSet<Serial>, serials: &[Serial]) -> bool
+pub(crate) fn has_each(order: &IndexSet<Serial>, serials: &[Serial]) -> bool
     ensures { result ≡ list_all (λ serial. has order.now.keys serial) serials.now }
 {
     serials.iter().all(|serial| order.contains(serial))

@@ -1,29 +1,69 @@
 //! Scopes that are kept.
 
+ghost use Rattle.std.specs.Prelude.{◌≡◌, [], if◌then◌else◌};
+ghost use Rattle.scope_lists.specs.Kept.{kept_in};
+ghost use Rattle.scope_lists.specs.Searched.{in_parts};
+
 use crate::scoping::Scopes;
-use ld_base::{Loaded, Serial, Serials};
+use crate::searched::{ScopeParts, Searched};
+use ld_base::Loaded;
 use std::alloc::{AllocError, Global};
 use std::collections::HashMap;
 
-/// Where the references of objects are searched, in order, by the places of these objects in load order: of
-/// those alone for which it was asked.
+/// Where the references of an object are searched, beside a global list that many share.
+#[derive(Drop)]
+pub(crate) struct KeptScope {
+    /// What comes before the global list.
+    pub(crate) before: Vec<Searched>,
+    /// Whether the global list is searched.
+    pub(crate) is_global: bool,
+    /// What comes behind it.
+    pub(crate) after: Vec<Searched>,
+}
+
+/// Where the references of objects are searched, by the places of these objects in load order: of those alone
+/// for which it was asked.
 #[derive(Drop)]
 pub(crate) struct KeptScopes {
-    by_place: HashMap<usize, Serials>,
+    /// The global list of the namespace.
+    global: Vec<Searched>,
+    by_place: HashMap<usize, KeptScope>,
+}
+
+/// A global list, if it is searched.
+fn global_of(global: &[Searched], is_searched: bool) -> &[Searched]
+    ensures { result.now ≡ (if is_searched then global.now else []) }
+{
+    if is_searched { global } else { &[] }
+}
+
+/// The parts of a scope beside a global list.
+fn parts_of<'a>(global: &'a [Searched], scope: &'a KeptScope) -> ScopeParts<'a>
+    ensures { in_parts result ≡ kept_in global.now scope.now }
+{
+    ScopeParts {
+        before: scope.before.as_slice(),
+        global: global_of(global, scope.is_global),
+        after: scope.after.as_slice(),
+    }
 }
 
 impl KeptScopes {
-    ghost use Rattle.std.specs.Prelude.{◌≡◌, ◌<◌, ◌≤◌, ℕ, [], true, None, Some, slice_get, IsSome, OnOk};
-    ghost use Rattle.std.specs.Option.{is_some, unwrap_or};
+    ghost use Rattle.std.specs.Prelude.{◌≡◌, ◌<◌, ◌≤◌, ℕ, true, None, Some, slice_get, IsSome, OnOk};
+    ghost use Rattle.std.specs.Option.{is_some};
     ghost use Rattle.ld_base.specs.declared.linking.Loaded.{Loaded as LoadedObject};
     ghost use Rattle.scope_rule.specs.Breadth.{has};
-    ghost use Rattle.scope_lists.specs.Kept.{AreScopes, KeepsAll, kept_at};
+    ghost use Rattle.scope_lists.specs.Kept.{AreScopes, KeepsAll, kept_at, kept_in};
+    ghost use Rattle.scope_lists.specs.Searched.{in_parts};
+    ghost use Rattle.scope_lists.specs.declared.kept.KeptScope.{KeptScope as Kept};
 
-    /// None yet.
-    pub(crate) fn new(alloc: Global) -> Self
-        ensures { (place : ℕ) → kept_at result place ≡ None }
+    /// None yet, of a namespace with this global list.
+    pub(crate) fn new(alloc: Global, global: Vec<Searched>) -> Self
+        ensures global { result.global.items ≡ global.items }
+        ensures none { (place : ℕ) → kept_at result place ≡ None }
     {
         KeptScopes {
+            global,
             by_place: HashMap::new(alloc),
         }
     }
@@ -36,12 +76,12 @@ impl KeptScopes {
     }
 
     /// That of the object at a place. Where it isn't there, nothing is searched.
-    pub(crate) fn get(&self, place: usize) -> &[Serial]
-        ensures { result.now ≡ unwrap_or (kept_at self.now place) [] }
+    pub(crate) fn get(&self, place: usize) -> ScopeParts
+        ensures { (found : Kept) → kept_at self.now place ≡ Some found → in_parts result ≡ kept_in self.now.global.items found }
     {
         match self.by_place.get(&place) {
-            Some(scope) => scope.as_slice(),
-            None => &[],
+            Some(scope) => parts_of(self.global.as_slice(), scope),
+            None => ScopeParts::none(),
         }
     }
 

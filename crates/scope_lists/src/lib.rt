@@ -3,7 +3,9 @@
 //! [`SearchLists`] are made of a namespace as it stands, at the first question behind a change, or as an
 //! opening will leave it. What an object's names found is gathered once, each object once, and an object is
 //! known by its serial in one step: that takes a step a name. Scopes are made for those objects alone that
-//! ask for them, and are kept: each takes a step an entry, and a look-up an opening.
+//! ask for them, and are kept as parts ([`ScopeParts`]): the global list stands once for all of them, and where
+//! it has all that names found and all that is open, as once a program is loaded, no object has a list of its
+//! own. Else each takes a step an entry of its own, and a look-up an opening.
 //! By [`lists_stay`] an object that becomes ready leaves the lists as they are.
 //!
 //! `version_places` knows where the names of an object's versions stand, by their index.
@@ -11,6 +13,7 @@
 
 mod breadth_first;
 mod brought;
+mod covering;
 mod kept;
 mod law;
 mod links;
@@ -18,9 +21,11 @@ mod lists;
 mod owners;
 mod places;
 mod scoping;
+mod searched;
 mod version_places;
 
 pub use law::lists_stay;
 pub use lists::SearchLists;
 pub use places::object_at;
+pub use searched::{ScopeParts, Searched};
 pub use version_places::{VersionNames, VersionPlace, version_name};

@@ -9,6 +9,7 @@ use crate::kept::KeptScopes;
 use crate::links::Links;
 use crate::owners::Owners;
 use crate::scoping::Scopes;
+use crate::searched::{ScopeParts, entries};
 use crate::version_places::VersionNames;
 use ld_base::{Loaded, Serial};
 use scope_rule::{Namespace, View};
@@ -62,9 +63,8 @@ impl SearchLists {
     ghost use Rattle.std.specs.List.{slice_get};
     ghost use Rattle.ld_base.specs.declared.linking.Loaded.{Loaded as loaded};
     ghost use Rattle.scope_rule.specs.Loading.{object_of};
-    ghost use Rattle.scope_rule.specs.Scope.{scope};
     ghost use Rattle.scope_rule.specs.Seen.{Seen, seen, seen_in};
-    ghost use Rattle.scope_lists.specs.Lists.{AreListed, AreListsOf, IsListed, IsListedAt, at_place};
+    ghost use Rattle.scope_lists.specs.Lists.{AreListed, AreListsOf, ArePartsOf, IsListed, IsListedAt, at_place};
     ghost use Rattle.scope_lists.specs.VersionPlaces.Places.{places_of};
 
     /// Those of what is seen of a namespace, without any scope.
@@ -77,10 +77,11 @@ impl SearchLists {
     {
         let links = Links::of(alloc, view)?;
         let names = names_of_each(alloc, view)?;
+        let global = entries(alloc, &links.places, view.global)?;
         Ok(SearchLists {
             links,
             names,
-            scopes: KeptScopes::new(alloc),
+            scopes: KeptScopes::new(alloc, global),
         })
     }
 
@@ -168,19 +169,19 @@ impl SearchLists {
     }
 
     /// Where the references of an object are searched, of any namespace whose lists these are.
-    pub fn scope(&self, owner: Serial) -> &[Serial]
-        ensures { (s : Seen) (o : loaded) → AreListsOf s self.now → IsListed self.now owner → object_of s owner ≡ Some o → result.now ≡ scope s o }
+    pub fn scope(&self, owner: Serial) -> ScopeParts
+        ensures { (s : Seen) (o : loaded) → AreListsOf s self.now → IsListed self.now owner → object_of s owner ≡ Some o → ArePartsOf s o result }
     {
         match self.links.places.get(owner) {
             Some(place) => self.scope_at(place),
-            None => &[],
+            None => ScopeParts::none(),
         }
     }
 
     /// Where the references of the object at a place in load order are searched, of any namespace whose
     /// lists these are.
-    pub fn scope_at(&self, place: usize) -> &[Serial]
-        ensures { (s : Seen) (o : loaded) → AreListsOf s self.now → IsListedAt self.now place → slice_get s.objects place ≡ Some o → result.now ≡ scope s o }
+    pub fn scope_at(&self, place: usize) -> ScopeParts
+        ensures { (s : Seen) (o : loaded) → AreListsOf s self.now → IsListedAt self.now place → slice_get s.objects place ≡ Some o → ArePartsOf s o result }
     {
         self.scopes.get(place)
     }

@@ -1,5 +1,5 @@
 -- Searches through lists that are made once.
-use Rattle.std.proofs.Common.{Bor, ◌≡◌, ◌≢◌, ◌<◌, ◌∙◌, ap, sym, subst, ℕ, Bool, true, false, cond, inl, inr, List, [], ◌∷◌, length, get_or, refl, arith, eq-eqb, get_or-set_other}
+use Rattle.std.proofs.Common.{Bor, ◌≡◌, ◌≢◌, ◌<◌, ◌∙◌, ap, sym, subst, ℕ, Bool, true, false, cond, inl, inr, List, [], ◌∷◌, ◌++◌, length, get_or, refl, arith, eq-eqb, get_or-set_other}
 use Rattle.std.specs.List.{AllByRecursion, slice_get}
 use Rattle.std.proofs.Math.ListN.{set}
 use Rattle.std.proofs.lemmas.Bool.{cases_Bool, cases_lt, eqb-true}
@@ -7,7 +7,7 @@ use Rattle.std.proofs.lemmas.Grind.{get_or-set_at}
 use Rattle.std.proofs.lemmas.List.{get_or_past}
 use Rattle.std.proofs.lemmas.Option.{slice_get-get_or}
 use Rattle.std.specs.Prelude.{◌==◌, ◌&&◌, if◌then◌else◌, nat_le, not, filter, IfSome, Option, Some, None}
-use Rattle.std.specs.Option.{option_copied}
+use Rattle.std.specs.Option.{is_some, option_copied}
 use Rattle.ld_base.specs.declared.linking.Loaded.{Loaded}
 use Rattle.ld_base.specs.declared.linking.Choice.{Choice}
 use Rattle.ld_base.specs.declared.linking.Choice.TheVariants.{Def}
@@ -24,7 +24,9 @@ use Rattle.scope_rule.specs.Scope.{scope}
 use Rattle.scope_rule.specs.Seen.{Seen}
 use Rattle.sym_lookup.specs.Looking.{HaveTables, choice_of_symbol, outside}
 use Rattle.sym_lookup.specs.References.{AreKept, IsAlike}
+use Rattle.scope_lists.specs.Searched.{FindsAlike, serials_in}
 use Rattle.scope_lists.specs.VersionPlaces.Places.{places_of}
+use Rattle.scope_lists.specs.declared.searched.Searched.{Searched}
 use Rattle.scope_lists.specs.declared.version_places.names.VersionPlace.{VersionPlace}
 
 module _ (pick : ℕ → Option ℕ) (serial : ℕ) (rest : List ℕ) where
@@ -60,9 +62,53 @@ outside_is : (owner : ℕ) (pick : ℕ → Option ℕ) (scope : List ℕ) → fi
 outside_is owner pick [] = refl
 outside_is owner pick (serial ∷ rest) = one_more owner pick serial rest (serial == owner) refl (outside_is owner pick rest)
 
-pub searched_is : (s : Seen) (o : Loaded) (pick : ℕ → Option ℕ) (copy : Bool) (list : List ℕ) → list ≡ scope s o → first_with (outside copy o.serial pick) list ≡ first_with pick (searched s o copy)
-searched_is s o pick true list is = ap (first_with (outside true o.serial pick)) is ∙ outside_is o.serial pick (scope s o)
-searched_is s o pick false list is = ap (first_with pick) is
+pub searched_is : (s : Seen) (o : Loaded) (pick : ℕ → Option ℕ) (copy : Bool) (list : List ℕ) → FindsAlike list (scope s o) → first_with (outside copy o.serial pick) list ≡ first_with pick (searched s o copy)
+searched_is s o pick true list alike = alike (outside true o.serial pick) ∙ outside_is o.serial pick (scope s o)
+searched_is s o pick false list alike = alike pick
+
+-- ---- lists that are searched one after another
+
+module _ (pick : ℕ → Option ℕ) where
+  abbrev with_next : ℕ → Option ℕ → Option (ℕ × ℕ) → Option (ℕ × ℕ)
+  with_next serial found rest = elim found [ Some index ↦ Some (serial, index) | None ↦ rest ]
+
+  one_found : (r : Option (ℕ × ℕ)) (xs ys : List Searched) → is_some r ≡ true → r ≡ first_with pick (serials_in xs) → r ≡ first_with pick (serials_in (xs ++ ys))
+  one_found r [] ys some is = absurd (let no : false ≡ true = ap is_some (sym is) ∙ some in cc no)
+  one_found r (x ∷ xs) ys some is = by (pick x.serial) is (one_found r xs ys some)
+    where
+      by : (found : Option ℕ) → r ≡ with_next x.serial found (first_with pick (serials_in xs)) → (r ≡ first_with pick (serials_in xs) → r ≡ first_with pick (serials_in (xs ++ ys)))
+          → r ≡ with_next x.serial found (first_with pick (serials_in (xs ++ ys)))
+      by (Some index) here later = here
+      by None here later = later here
+
+  none_found : (r : Option (ℕ × ℕ)) (xs ys : List Searched) → is_some r ≡ false → r ≡ first_with pick (serials_in xs) → first_with pick (serials_in ys) ≡ first_with pick (serials_in (xs ++ ys))
+  none_found r [] ys none is = refl
+  none_found r (x ∷ xs) ys none is = by (pick x.serial) is (none_found r xs ys none)
+    where
+      by : (found : Option ℕ) → r ≡ with_next x.serial found (first_with pick (serials_in xs)) → (r ≡ first_with pick (serials_in xs) → first_with pick (serials_in ys) ≡ first_with pick (serials_in (xs ++ ys)))
+          → first_with pick (serials_in ys) ≡ with_next x.serial found (first_with pick (serials_in (xs ++ ys)))
+      by (Some index) here later = absurd (let no : true ≡ false = ap is_some (sym here) ∙ none in cc no)
+      by None here later = later here
+
+  pub in_before : (xs ys zs : List Searched) (r : Option (ℕ × ℕ)) → is_some r ≡ true → r ≡ first_with pick (serials_in xs) → r ≡ first_with pick (serials_in (xs ++ ys ++ zs))
+  in_before xs ys zs r some is = one_found r (xs ++ ys) zs some (one_found r xs ys some is)
+
+  pub in_global : (xs ys zs : List Searched) (before r : Option (ℕ × ℕ)) → is_some before ≡ false → before ≡ first_with pick (serials_in xs) → is_some r ≡ true → r ≡ first_with pick (serials_in ys)
+      → r ≡ first_with pick (serials_in (xs ++ ys ++ zs))
+  in_global xs ys zs before r none was some is = one_found r (xs ++ ys) zs some (is ∙ none_found before xs ys none was)
+
+  pub in_after : (xs ys zs : List Searched) (before global r : Option (ℕ × ℕ)) → is_some before ≡ false → before ≡ first_with pick (serials_in xs) → is_some global ≡ false → global ≡ first_with pick (serials_in ys)
+      → r ≡ first_with pick (serials_in zs) → r ≡ first_with pick (serials_in (xs ++ ys ++ zs))
+  in_after xs ys zs before global r none was nowhere were is = is ∙ none_found global (xs ++ ys) zs nowhere (were ∙ none_found before xs ys none was)
+
+-- the parts of a list that is placed
+pub first_placed : (P : Searched → Type 0) (xs ys : List Searched) → AllByRecursion P (xs ++ ys) → AllByRecursion P xs
+first_placed P [] ys all = tt
+first_placed P (x ∷ xs) ys all = (all.0, first_placed P xs ys all.1)
+
+pub last_placed : (P : Searched → Type 0) (xs ys : List Searched) → AllByRecursion P (xs ++ ys) → AllByRecursion P ys
+last_placed P [] ys all = all
+last_placed P (x ∷ xs) ys all = last_placed P xs ys all.1
 
 -- the choice for a symbol that no other object may define, and for another
 pub own_choice : (s : Seen) (o : Loaded) (index : ℕ) (symbol : Symbol) (copy : Bool) → (not copy && is_own symbol) ≡ true → Def o.serial index ≡ choose_for s o index symbol copy
@@ -70,7 +116,7 @@ unfolding choose_for
 own_choice s o index symbol copy own = rw own refl
 
 pub searched_choice : (s : Seen) (o : Loaded) (index : ℕ) (symbol : Symbol) (copy : Bool) (name : List ℕ) (w : Want) (list : List ℕ) (found : Option (ℕ × ℕ)) → (not copy && is_own symbol) ≡ false
-    → name ≡ symbol.name → w ≡ want_of o.object symbol → list ≡ scope s o → found ≡ first_with (outside copy o.serial (pick_at s name w)) list → choice_of symbol found ≡ choose_for s o index symbol copy
+    → name ≡ symbol.name → w ≡ want_of o.object symbol → FindsAlike list (scope s o) → found ≡ first_with (outside copy o.serial (pick_at s name w)) list → choice_of symbol found ≡ choose_for s o index symbol copy
 unfolding choose_for
 searched_choice s o index symbol copy name w list found other named wants listed is =
     let all : found ≡ first_with (pick_at s symbol.name (want_of o.object symbol)) (searched s o copy) =

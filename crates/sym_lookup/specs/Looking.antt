@@ -9,9 +9,7 @@ use Rattle.ld_base.specs.declared.linking.Want.TheVariants as want
 use Rattle.scope_rule.specs.Choose.{choose_for}
 use Rattle.scope_rule.specs.Loading.{object_of}
 use Rattle.scope_rule.specs.Seen.{Seen}
-use Rattle.scope_lists.specs.Lists.{at_place}
 use Rattle.sym_hash.specs.Reached.{IsTableOf}
-use Rattle.sym_lookup.specs.declared.searched.Searched.{Searched}
 
 -- the table of each object that is seen is that object's
 abbrev pub HaveTables : Seen → Type 0
@@ -24,10 +22,6 @@ outside copy owner pick serial = if copy && serial == owner then None else pick 
 -- the choice for the symbol of an object at an index
 abbrev pub choice_of_symbol : Seen → Loaded → ℕ → Bool → Choice
 choice_of_symbol s o index copy = elim (slice_get o.object.symbols index) [ Some symbol ↦ choose_for s o index symbol copy | None ↦ Missing ]
-
--- an object that is searched stands where the one of its serial does
-abbrev pub IsSearched : Seen → Searched → Type 0
-IsSearched s x = at_place s x.place ≡ object_of s x.serial
 
 -- what a reference wants that asks for this version, or for none
 abbrev pub want_for : Option (List ℕ) → Want

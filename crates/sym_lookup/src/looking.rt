@@ -2,20 +2,19 @@
 
 ghost use Rattle.std.specs.Prelude.{◌≡◌, ◌<◌, ◌&&◌, not, Some, length, IsSome, IfSome};
 ghost use Rattle.std.specs.Option.{option_copied};
-ghost use Rattle.scope_rule.specs.Choose.{choose_for, choose_of, first_with, is_own, pick_at, want_of};
+ghost use Rattle.scope_rule.specs.Choose.{choose_for, choose_of, is_own, want_of};
 ghost use Rattle.scope_rule.specs.Loading.{object_of};
 ghost use Rattle.scope_rule.specs.Relocation.{choice_at};
-ghost use Rattle.scope_rule.specs.Scope.{scope};
 ghost use Rattle.scope_rule.specs.Seen.{Seen, seen, seen_in};
-ghost use Rattle.scope_lists.specs.Lists.{AreListsOf, IsListed};
+ghost use Rattle.scope_lists.specs.Lists.{AreListsOf, ArePartsOf, IsListed};
 ghost use Rattle.sym_lookup.specs.SymFind.Reference.{want_as};
-ghost use Rattle.sym_lookup.specs.Looking.{HaveTables, outside, want_for};
+ghost use Rattle.sym_lookup.specs.Looking.{HaveTables, want_for};
 ghost use Rattle.scope_lists.specs.VersionPlaces.Places.{places_of};
 
-use crate::searched::{Searched, found_outside, names_of};
+use crate::searched::{first_in_parts, names_of};
 use crate::sym_find::{Asked, Sought};
 use ld_base::{Choice, Loaded, Name, Object, Reloc, Serial, Symbol};
-use scope_lists::{SearchLists, VersionNames, version_name};
+use scope_lists::{ScopeParts, SearchLists, VersionNames, version_name};
 use scope_rule::{Namespace, View, choice_of, has_no_symbol, is_copy, is_own};
 
 /// The version that a relocation against a symbol asks for: that of the symbol's index, if the index
@@ -65,31 +64,6 @@ pub(crate) fn stays_own(symbol: &Symbol, copy: bool) -> bool
     !copy && is_own(symbol)
 }
 
-/// The first object of the list that has a definition, with its symbol.
-fn first_found(
-    view: &View,
-    lists: &SearchLists,
-    sought: &Sought,
-    list: &[Serial],
-    owner: Serial,
-    copy: bool,
-) -> Option<(Serial, u32)>
-    requires lists { AreListsOf (seen view.now) lists.now }
-    requires tables { HaveTables (seen view.now) }
-    ensures { result ≡ first_with (outside copy owner (pick_at (seen view.now) sought.now.name sought.now.want)) list.now }
-{
-    for serial in list {
-        let searched = Searched {
-            serial: *serial,
-            place: lists.place(*serial),
-        };
-        if let Some(index) = found_outside(view, lists, sought, searched, owner, copy) {
-            return Some((*serial, index));
-        }
-    }
-    None
-}
-
 /// The names of the versions of an object that is there.
 pub(crate) fn owner_names<'a>(lists: &'a SearchLists, owner: &Loaded) -> Option<&'a VersionNames>
     ensures { (s : Seen) → AreListsOf s lists.now → object_of s owner.now.serial ≡ Some owner.now → IfSome result (λ n. n.now ≡ places_of owner.now.object) }
@@ -97,11 +71,11 @@ pub(crate) fn owner_names<'a>(lists: &'a SearchLists, owner: &Loaded) -> Option<
     names_of(lists, lists.place(owner.serial))
 }
 
-/// The choice for a symbol of an object whose references are searched there.
+/// The choice for a symbol of an object, which these are the parts of the scope of.
 fn lookup_for(
     view: &View,
     lists: &SearchLists,
-    list: &[Serial],
+    parts: ScopeParts,
     owner: &Loaded,
     index: u32,
     symbol: &Symbol,
@@ -110,7 +84,7 @@ fn lookup_for(
     requires lists { AreListsOf (seen view.now) lists.now }
     requires tables { HaveTables (seen view.now) }
     requires there { object_of (seen view.now) owner.now.serial ≡ Some owner.now }
-    requires scope { list.now ≡ scope (seen view.now) owner.now }
+    requires scope { ArePartsOf (seen view.now) owner.now parts }
     ensures { result ≡ choose_for (seen view.now) owner.now index symbol.now copy }
 {
     if stays_own(symbol, copy) {
@@ -118,7 +92,7 @@ fn lookup_for(
     } else {
         let names = owner_names(lists, owner);
         let sought = sought_of(&owner.object, names, symbol);
-        let found = first_found(view, lists, &sought, list, owner.serial, copy);
+        let found = first_in_parts(view, lists, &sought, parts, owner.serial, copy);
         choice_of(symbol, found)
     }
 }
@@ -129,11 +103,11 @@ pub(crate) fn searched<'a>(
     lists: &'a SearchLists,
     owner: Serial,
     loaded: &Loaded,
-) -> &'a [Serial]
+) -> ScopeParts<'a>
     requires lists { AreListsOf (seen view.now) lists.now }
     requires listed { IsListed lists.now owner }
     requires there { object_of (seen view.now) owner ≡ Some loaded.now }
-    ensures { result.now ≡ scope (seen view.now) loaded.now }
+    ensures { ArePartsOf (seen view.now) loaded.now result }
 {
     lists.scope(owner)
 }
@@ -163,8 +137,8 @@ pub fn lookup_in(view: &View, lists: &SearchLists, owner: Serial, symbol: u32, c
 {
     let loaded = lists.object(view, owner).unwrap();
     let entry = &loaded.object.symbols.as_slice()[symbol as usize];
-    let list = searched(view, lists, owner, loaded);
-    lookup_for(view, lists, list, loaded, symbol, entry, copy)
+    let parts = searched(view, lists, owner, loaded);
+    lookup_for(view, lists, parts, loaded, symbol, entry, copy)
 }
 
 /// The choice of a relocation of an object when it is loaded, as `scope_rule::choose_reloc` gives it
@@ -186,7 +160,7 @@ pub fn lookup_reloc(view: &View, lists: &SearchLists, owner: &Loaded, reloc: &Re
         return Choice::Def(owner.serial, 0);
     }
     let symbol = &owner.object.symbols.as_slice()[reloc.symbol as usize];
-    let list = searched(view, lists, owner.serial, owner);
+    let parts = searched(view, lists, owner.serial, owner);
     let copy = is_copy(reloc);
-    lookup_for(view, lists, list, owner, reloc.symbol, symbol, copy)
+    lookup_for(view, lists, parts, owner, reloc.symbol, symbol, copy)
 }

@@ -11,7 +11,7 @@ ghost use Rattle.sym_lookup.specs.References.{AreKept, IsAlike};
 use crate::looking::{owner_names, searched, stays_own};
 use crate::searching::Searching;
 use ld_base::{Choice, Loaded, Name, Object, Reloc, Serial, Symbol};
-use scope_lists::{SearchLists, VersionNames};
+use scope_lists::{ScopeParts, SearchLists, VersionNames};
 use scope_rule::{View, choice_of, has_no_symbol, is_copy};
 use std::alloc::{AllocError, Global};
 use std::marker::Model;
@@ -184,9 +184,8 @@ impl<'a> References<'a> {
     ghost use Rattle.scope_rule.specs.Choose.{want_of};
     ghost use Rattle.scope_rule.specs.Loading.{object_of};
     ghost use Rattle.scope_rule.specs.Relocation.{choice_at};
-    ghost use Rattle.scope_rule.specs.Scope.{scope};
     ghost use Rattle.scope_rule.specs.Seen.{seen};
-    ghost use Rattle.scope_lists.specs.Lists.{AreListsOf, IsListed, IsListedAt};
+    ghost use Rattle.scope_lists.specs.Lists.{AreListsOf, ArePartsOf, IsListed, IsListedAt};
     ghost use Rattle.sym_lookup.specs.Looking.{HaveTables, choice_of_symbol, want_for};
     ghost use Rattle.scope_lists.specs.VersionPlaces.Places.{places_of};
 
@@ -208,8 +207,8 @@ impl<'a> References<'a> {
         requires owner_is_there { object_of (seen view.now) owner.now.serial ≡ Some owner.now }
         ensures { IfOk result (λ references. references ≡ record { seen = seen view.now; owner = owner.now }) }
     {
-        let list = searched(view, lists, owner.serial, owner);
-        Self::over(alloc, view, lists, owner_names(lists, owner), list, owner)
+        let parts = searched(view, lists, owner.serial, owner);
+        Self::over(alloc, view, lists, owner_names(lists, owner), parts, owner)
     }
 
     /// The same as [`References::new`], of the object at a place in load order.
@@ -234,22 +233,22 @@ impl<'a> References<'a> {
         Self::over(alloc, view, lists, names, lists.scope_at(place), owner)
     }
 
-    /// Those of an object with these names of versions, whose references are searched there.
+    /// Those of an object with these names of versions, which these are the parts of the scope of.
     fn over(
         alloc: Global,
         view: &View<'a>,
         lists: &'a SearchLists,
         names: Option<&'a VersionNames>,
-        list: &[Serial],
+        parts: ScopeParts<'a>,
         owner: &'a Loaded,
     ) -> Result<Self, AllocError>
         requires lists { AreListsOf (seen view.now) lists.now }
         requires names { IfSome names (λ n. n.now ≡ places_of owner.now.object) }
         requires tables { HaveTables (seen view.now) }
-        requires scope { list.now ≡ scope (seen view.now) owner.now }
+        requires scope { ArePartsOf (seen view.now) owner.now parts }
         ensures { IfOk result (λ references. references ≡ record { seen = seen view.now; owner = owner.now }) }
     {
-        let searching = Searching::of(alloc, view, lists, names, list, owner)?;
+        let searching = Searching::of(view, lists, names, parts, owner);
         let kept = nothing_kept(alloc, owner.object.symbols.len())?;
         let copied = nothing_kept(alloc, copied_symbols(&owner.object))?;
         Ok(References {

@@ -1,25 +1,19 @@
 //! Searching objects for a reference.
 
-ghost use Rattle.std.specs.Prelude.{◌≡◌, map, IfSome};
+ghost use Rattle.std.specs.Prelude.{◌≡◌, IfSome};
 ghost use Rattle.std.specs.List.{AllByRecursion};
 ghost use Rattle.std.specs.Option.{option_copied};
 ghost use Rattle.scope_rule.specs.Choose.{first_with, pick_at};
 ghost use Rattle.scope_rule.specs.Seen.{Seen, seen};
-ghost use Rattle.scope_lists.specs.Lists.{AreListsOf, at_place};
-ghost use Rattle.sym_lookup.specs.Looking.{HaveTables, IsSearched, outside};
+ghost use Rattle.scope_lists.specs.Lists.{AreListsOf, IsSearched, at_place};
+ghost use Rattle.scope_lists.specs.Searched.{in_parts, serials_in};
+ghost use Rattle.sym_lookup.specs.Looking.{HaveTables, outside};
 ghost use Rattle.scope_lists.specs.VersionPlaces.Places.{places_of};
 
 use crate::sym_find::{Find, Sought};
 use ld_base::{Loaded, Serial};
-use scope_lists::{SearchLists, VersionNames, object_at};
+use scope_lists::{ScopeParts, SearchLists, Searched, VersionNames, object_at};
 use scope_rule::{View, linker_symbol};
-
-/// An object that is searched: its serial, and its place in load order where it is there.
-#[derive(Clone, Copy)]
-pub(crate) struct Searched {
-    pub(crate) serial: Serial,
-    pub(crate) place: Option<usize>,
-}
 
 /// The object at a place, if any.
 fn object_of<'a>(view: &View<'a>, place: Option<usize>) -> Option<&'a Loaded>
@@ -59,7 +53,7 @@ fn found_at(view: &View, lists: &SearchLists, sought: &Sought, searched: Searche
 }
 
 /// The same, where nothing is looked for in the object itself if the relocation is a COPY.
-pub(crate) fn found_outside(
+fn found_outside(
     view: &View,
     lists: &SearchLists,
     sought: &Sought,
@@ -80,7 +74,7 @@ pub(crate) fn found_outside(
 }
 
 /// The first of these objects that has a definition, with its symbol.
-pub(crate) fn first_searched(
+fn first_searched(
     view: &View,
     lists: &SearchLists,
     sought: &Sought,
@@ -91,7 +85,7 @@ pub(crate) fn first_searched(
     requires lists { AreListsOf (seen view.now) lists.now }
     requires tables { HaveTables (seen view.now) }
     requires searched { AllByRecursion (IsSearched (seen view.now)) searched.now }
-    ensures { result ≡ first_with (outside copy owner (pick_at (seen view.now) sought.now.name sought.now.want)) (map (λ x. x.serial) searched.now) }
+    ensures { result ≡ first_with (outside copy owner (pick_at (seen view.now) sought.now.name sought.now.want)) (serials_in searched.now) }
 {
     for one in searched {
         if let Some(index) = found_outside(view, lists, sought, *one, owner, copy) {
@@ -99,4 +93,29 @@ pub(crate) fn first_searched(
         }
     }
     None
+}
+
+/// The same of the parts of a scope, one after another.
+pub(crate) fn first_in_parts(
+    view: &View,
+    lists: &SearchLists,
+    sought: &Sought,
+    parts: ScopeParts,
+    owner: Serial,
+    copy: bool,
+) -> Option<(Serial, u32)>
+    requires lists { AreListsOf (seen view.now) lists.now }
+    requires tables { HaveTables (seen view.now) }
+    requires searched { AllByRecursion (IsSearched (seen view.now)) (in_parts parts) }
+    ensures { result ≡ first_with (outside copy owner (pick_at (seen view.now) sought.now.name sought.now.want)) (serials_in (in_parts parts.entry)) }
+{
+    let before = first_searched(view, lists, sought, parts.before, owner, copy);
+    if before.is_some() {
+        return before;
+    }
+    let global = first_searched(view, lists, sought, parts.global, owner, copy);
+    if global.is_some() {
+        return global;
+    }
+    first_searched(view, lists, sought, parts.after, owner, copy)
 }

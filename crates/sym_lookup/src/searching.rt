@@ -1,20 +1,13 @@
 //! What searches for the references of one object.
 
-ghost use Rattle.std.specs.Prelude.{◌≡◌, map, IfOk};
-ghost use Rattle.std.specs.List.{AllByRecursion};
-ghost use Rattle.scope_rule.specs.Seen.{Seen};
-ghost use Rattle.scope_lists.specs.Lists.{AreListsOf};
-ghost use Rattle.sym_lookup.specs.Looking.{IsSearched};
-
 use crate::looking::{sought_of, stays_own, version_asked};
-use crate::searched::{Searched, first_searched};
-use ld_base::{Choice, Loaded, Name, Serial, Symbol};
-use scope_lists::{SearchLists, VersionNames};
+use crate::searched::first_in_parts;
+use ld_base::{Choice, Loaded, Name, Symbol};
+use scope_lists::{ScopeParts, SearchLists, VersionNames};
 use scope_rule::{View, choice_of};
-use std::alloc::{AllocError, Global};
 use std::marker::Model;
 
-/// An object, and what its references are searched in: each object that is searched is found once.
+/// An object, and what its references are searched in.
 /// Contracts see the object, and what is seen of its namespace.
 #[derive(Drop)]
 pub(crate) struct Searching<'a> {
@@ -23,16 +16,14 @@ pub(crate) struct Searching<'a> {
     pub(crate) owner: &'a Loaded,
     /// The names of the owner's versions.
     names: Option<&'a VersionNames>,
-    searched: Vec<Searched>,
+    parts: ScopeParts<'a>,
 }
 
 impl<'a> Model for Searching<'a> {
-    ghost use Rattle.std.specs.Prelude.{◌≡◌, map, IfSome};
-    ghost use Rattle.std.specs.List.{AllByRecursion};
-    ghost use Rattle.scope_rule.specs.Scope.{scope};
+    ghost use Rattle.std.specs.Prelude.{◌≡◌, IfSome};
     ghost use Rattle.scope_rule.specs.Seen.{seen};
-    ghost use Rattle.scope_lists.specs.Lists.{AreListsOf};
-    ghost use Rattle.sym_lookup.specs.Looking.{HaveTables, IsSearched};
+    ghost use Rattle.scope_lists.specs.Lists.{AreListsOf, ArePartsOf};
+    ghost use Rattle.sym_lookup.specs.Looking.{HaveTables};
     ghost use Rattle.sym_lookup.specs.References.{Referring};
     ghost use Rattle.scope_lists.specs.VersionPlaces.Places.{places_of};
 
@@ -44,62 +35,39 @@ impl<'a> Model for Searching<'a> {
         AreListsOf (seen s.view) s.lists.now
         × IfSome s.names (λ n. n.now ≡ places_of s.owner.now.object)
         × HaveTables (seen s.view)
-        × (map (λ x. x.serial) s.searched.items ≡ scope (seen s.view) s.owner.now)
-        × AllByRecursion (IsSearched (seen s.view)) s.searched.items };
-}
-
-/// The objects that are searched, each found once.
-fn found_once(
-    alloc: Global,
-    lists: &SearchLists,
-    serials: &[Serial],
-) -> Result<Vec<Searched>, AllocError>
-    ensures serials { IfOk result (λ found. map (λ x. x.serial) found.items ≡ serials.now) }
-    ensures places { IfOk result (λ found. (s : Seen) → AreListsOf s lists.now → AllByRecursion (IsSearched s) found.items) }
-{
-    let mut found = Vec::new(alloc);
-    for serial in serials {
-        found.push(Searched {
-            serial: *serial,
-            place: lists.place(*serial),
-        })?;
-    }
-    Ok(found)
+        × ArePartsOf (seen s.view) s.owner.now s.parts };
 }
 
 impl<'a> Searching<'a> {
-    ghost use Rattle.std.specs.Prelude.{◌≡◌, ◌<◌, length, IfOk, IfSome};
+    ghost use Rattle.std.specs.Prelude.{◌≡◌, ◌<◌, length, IfSome};
     ghost use Rattle.std.specs.Option.{option_copied};
     ghost use Rattle.scope_rule.specs.Choose.{choose_for, want_of};
-    ghost use Rattle.scope_rule.specs.Scope.{scope};
     ghost use Rattle.scope_rule.specs.Seen.{seen};
-    ghost use Rattle.scope_lists.specs.Lists.{AreListsOf};
+    ghost use Rattle.scope_lists.specs.Lists.{AreListsOf, ArePartsOf};
     ghost use Rattle.sym_lookup.specs.Looking.{HaveTables, choice_of_symbol, want_for};
     ghost use Rattle.scope_lists.specs.VersionPlaces.Places.{places_of};
 
-    /// Those of an object with these names of versions, whose references are searched there.
+    /// Those of an object with these names of versions, which these are the parts of the scope of.
     pub(crate) fn of(
-        alloc: Global,
         view: &View<'a>,
         lists: &'a SearchLists,
         names: Option<&'a VersionNames>,
-        list: &[Serial],
+        parts: ScopeParts<'a>,
         owner: &'a Loaded,
-    ) -> Result<Self, AllocError>
+    ) -> Self
         requires lists { AreListsOf (seen view.now) lists.now }
         requires names { IfSome names (λ n. n.now ≡ places_of owner.now.object) }
         requires tables { HaveTables (seen view.now) }
-        requires scope { list.now ≡ scope (seen view.now) owner.now }
-        ensures { IfOk result (λ searching. searching ≡ record { seen = seen view.now; owner = owner.now }) }
+        requires scope { ArePartsOf (seen view.now) owner.now parts }
+        ensures { result ≡ record { seen = seen view.now; owner = owner.now } }
     {
-        let searched = found_once(alloc, lists, list)?;
-        Ok(Searching {
+        Searching {
             view: *view,
             lists,
             owner,
             names,
-            searched,
-        })
+            parts,
+        }
     }
 
     /// The version that a reference to a symbol of the object asks for.
@@ -118,12 +86,11 @@ impl<'a> Searching<'a> {
             Choice::Def(owner.serial, index)
         } else {
             let sought = sought_of(&owner.object, self.names, symbol);
-            let searched = self.searched.as_slice();
-            let found = first_searched(
+            let found = first_in_parts(
                 &self.view,
                 self.lists,
                 &sought,
-                searched,
+                self.parts,
                 owner.serial,
                 copy,
             );

@@ -1,6 +1,5 @@
-use Rattle.std.proofs.Common.{◌∙◌}
-use Rattle.scope_lists.proofs.Stands.{kept_scope}
+use Rattle.scope_lists.proofs.Stands.{kept_parts}
 use Rattle.scope_lists.proofs.lists.SearchLists.scope_at.Goals as goal
 
 pub returns : goal.returns
-returns c = λ s o are has here. c.get.ensures ∙ kept_scope s c.args.self.now.scopes c.args.place o are.scopes has here
+returns c = λ s o are has here. kept_parts s c.args.self.now c.args.place o c.get.result are has here c.get.ensures

@@ -1,9 +1,9 @@
-use Rattle.std.proofs.Common.{◌≡◌, ◌∙◌, ap, map, subst, sym}
+use Rattle.std.proofs.Common.{◌≡◌, ◌∙◌, subst, sym}
 use Rattle.ld_base.specs.declared.linking.Choice.TheVariants.{Def}
 use Rattle.scope_rule.specs.Choose.{choose_for}
 use Rattle.scope_rule.specs.Seen.{seen}
+use Rattle.scope_lists.specs.Searched.{in_parts, serials_in}
 use Rattle.sym_lookup.specs.References.{Referring}
-use Rattle.sym_lookup.specs.declared.searched.Searched.{Searched}
 use Rattle.sym_lookup.proofs.Searches.{own_choice, searched_choice}
 use Rattle.sym_lookup.proofs.searching.Searching.search_for.Goals as goal
 
@@ -17,8 +17,10 @@ pub returns-else-stays_own : goal.returns-else-stays_own
 returns-else-stays_own c =
     let o = c.self.inside.owner.now in
     let P : Referring → Type 0 = λ r. c.choice_of.result ≡ choose_for r.seen r.owner c.args.index c.args.symbol.now c.args.copy in
-    let listed = ap (map (λ (x : Searched). x.serial)) c.as_slice-searched.ensures.value ∙ c.self.invariant.3 in
     subst P c.self.view_is
     (c.choice_of.ensures
-    ∙ searched_choice (seen c.self.inside.view) o c.args.index c.args.symbol.now c.args.copy c.sought_of-sought.result.name c.sought_of-sought.result.want (map (λ (x : Searched). x.serial) c.as_slice-searched.result.now) c.first_searched-found.result
-    (sym c.stays_own.ensures ∙ c.if-stays_own.false) c.sought_of-sought.ensures.name c.sought_of-sought.ensures.want listed c.first_searched-found.ensures)
+    ∙ searched_choice (seen c.self.inside.view) o c.args.index c.args.symbol.now c.args.copy c.sought_of-sought.result.name c.sought_of-sought.result.want (serials_in (in_parts c.self.inside.parts)) c.first_in_parts-found.result
+    (sym c.stays_own.ensures ∙ c.if-stays_own.false) c.sought_of-sought.ensures.name c.sought_of-sought.ensures.want c.self.invariant.3.alike c.first_in_parts-found.ensures)
+
+pub first_in_parts-found-requires-clause-searched : goal.first_in_parts-found-requires-clause-searched
+first_in_parts-found-requires-clause-searched c = c.self.invariant.3.places
