@@ -1,2 +1,4 @@
+pub mod MadeTables
+pub mod OwnTable
 pub mod Searches
 pub mod SymFind

@@ -1,3 +1,5 @@
+pub mod LongChains
 pub mod Looking
+pub mod QuickTables
 pub mod References
 pub mod SymFind

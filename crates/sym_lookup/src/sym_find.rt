@@ -11,4 +11,5 @@ mod reference;
 mod sysv;
 
 pub use finding::Find;
+pub(crate) use finding::rules_out;
 pub use reference::{Asked, Sought};

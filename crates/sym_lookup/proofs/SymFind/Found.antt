@@ -18,7 +18,7 @@ use Rattle.ld_base.specs.Taken.{Exports, Takes, fits, in_sight}
 use Rattle.sym_hash.specs.Hash.{gnu_hash}
 use Rattle.sym_hash.specs.Reached.{IsTableOf, Reached, ReachedByGnu, ReachedBySysv}
 use Rattle.sym_lookup.specs.SymFind.Best.{FirstOf, IsWantedAt, Keeps, KeepsAll, Knows, OnlyOf, nothing, only_of, taken}
-use Rattle.sym_lookup.specs.SymFind.Found.{Finds, Least, Offers, Only}
+use Rattle.sym_lookup.specs.SymFind.Found.{Finds, Least, Nowhere, Offers, Only}
 use Rattle.sym_lookup.specs.SymFind.Walks.{HasBits, InBloom}
 use Rattle.sym_lookup.specs.declared.sym_find.best.Best.{Best}
 use Rattle.sym_lookup.specs.declared.sym_find.best.Search.{Search}
@@ -217,3 +217,7 @@ same_finds t o name other w v found names wants finds =
 
 pub same_pick : (o : Object) (name other : List ℕ) (w v : Want) → other ≡ name → v ≡ w → pick_of o other v ≡ pick_of o name w
 same_pick o name other w v names wants = ap (λ n. pick_of o n v) names ∙ ap (λ (x : Want). pick_of o name x) wants
+
+-- where a table of an object leads to no symbol of a name, a reference takes none
+pub nowhere_picks : (t : HashTable) (o : Object) (name : List ℕ) (w : Want) → IsTableOf t o → Nowhere (Reached t name) → ((k : ℕ) → (pick_of o name w ≡ Some k) ↔ Takes o name w k) → None ≡ pick_of o name w
+nowhere_picks t o name w of nowhere takes = picks t o name w of None (λ k. (λ none. absurd (cc none), λ found. absurd (nowhere k (found_offer t o name w k found).1))) takes

@@ -172,7 +172,7 @@ fn kept_with_versions(table: &HashTable, object: &Object, sought: &Sought) -> Be
 
 /// Whether the bloom filter tells that the table leads to no symbol of the name, as it does of most
 /// objects that are searched.
-fn rules_out(table: &HashTable, sought: &Sought) -> bool
+pub(crate) fn rules_out(table: &HashTable, sought: &Sought) -> bool
     ensures { IsTrue result → Nowhere (Reached table.now sought.now.name) }
 {
     match &table.gnu {
