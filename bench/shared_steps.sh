@@ -17,7 +17,7 @@ millions=${3:-20}
 top=$(cd "$(dirname "$0")/.." && pwd)
 
 below='ld_base rv_isa rv_hart history_event word_rule word_steps word_access word_memory'
-mkdir -p "$work/repo/crates/bench/src" "$work/repo/crates/bench/proofs/put_data"
+mkdir -p "$work/repo/crates/bench/src" "$work/repo/crates/bench/proofs"
 cp "$top/HANDLES" "$work/repo/"
 for crate in $below; do
     mkdir "$work/repo/crates/$crate"
@@ -36,17 +36,26 @@ done
     echo "bench: $below"
 } > "$work/repo/crates.txt"
 
-# The functions that set words, with their proofs, are those of test_words.
+# The function that sets a word, with its proof, is that of test_words.
 tests="$top/crates/test_words"
 mkdir "$work/repo/crates/bench/specs"
 for part in specs proofs; do
     cp "$tests/$part/WordTests/Unset.antt" "$work/repo/crates/bench/$part/"
     echo 'pub mod Unset' > "$work/repo/crates/bench/$part/Lib.antt"
 done
-cp -r "$tests/proofs/word_tests/tests/words/put_word" "$tests/proofs/word_tests/tests/words/put_code" "$work/repo/crates/bench/proofs/"
-sed 's/put_code/put_data/' "$tests/proofs/word_tests/tests/words/put_code/Invariants.antt" > "$work/repo/crates/bench/proofs/put_data/Invariants.antt"
-sed -i 's/Rattle\.test_words\.proofs\.word_tests\.tests\.words\./Rattle.bench.proofs./; s/Rattle\.test_words\.\(specs\|proofs\)\.WordTests\./Rattle.bench.\1./' \
+cp -r "$tests/proofs/word_tests/words/put_word" "$work/repo/crates/bench/proofs/"
+sed -i 's/Rattle\.test_words\.proofs\.word_tests\.words\./Rattle.bench.proofs./; s/Rattle\.test_words\.\(specs\|proofs\)\.WordTests\./Rattle.bench.\1./' \
     "$work"/repo/crates/bench/proofs/*.antt "$work"/repo/crates/bench/proofs/*/*.antt "$work"/repo/crates/bench/specs/*.antt
+for part in code data; do
+    mkdir "$work/repo/crates/bench/proofs/put_$part"
+    cat > "$work/repo/crates/bench/proofs/put_$part/Invariants.antt" <<LOOP
+use Rattle.bench.specs.Unset.{AreUnset}
+use Rattle.bench.proofs.put_$part.Given as goal
+
+abbrev pub invariant-loop-index : goal.invariant-loop-index
+invariant-loop-index g l = AreUnset l.keeper l.index
+LOOP
+done
 
 mkdir "$work/repo/crates/bench/proofs/main"
 cat > "$work/repo/crates/bench/proofs/main/Invariants.antt" <<'PICK'
@@ -106,10 +115,22 @@ use word_memory::{
 
 MAIN
     cat "$work/common"
-    sed -n '/^\/\/ Gives a doubleword its role/,/^}/p' "$tests/src/word_tests/tests/words.rt"
-    sed -n '/^\/\/ The code\.$/,/^}/p' "$tests/src/word_tests/tests/words.rt" | sed 's/512 2/512 4/; s/WordTests::Unset/Unset/'
+    sed -n '/^\/\/ Gives a doubleword its role/,/^}/p' "$tests/src/word_tests/words.rt"
     echo "const CODE: [u64; 14] = [$(echo "$own" "$shared" $ebreaks | tr ' ' ',')];"
     cat <<'MAIN'
+
+const WORDS: u64 = 0x1_0000;
+
+// The code.
+#[tactic(auto, using(crate::proofs::Unset::unset_first))]
+fn put_code<J: Naming>(memory: &Memory<J>, keeper: &mut KeeperSeat<J>)
+    requires { IsMade keeper.old 512 4 }
+    ensures { AreUnset keeper.new 14 }
+{
+    for index in 0..14u64 {
+        put_word(memory, keeper, index, CODE[index as usize], Role::Rx);
+    }
+}
 
 // Words that harts write.
 fn put_data<J: Naming>(memory: &Memory<J>, keeper: &mut KeeperSeat<J>)

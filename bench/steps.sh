@@ -39,7 +39,7 @@ fn run(memory: &mut Plain, steps: u64) -> (u64, u64) {
 MAIN
 words='0x0025_0533_0400_3503 0xfff1_0113_04a0_3023 0x0010_0073_fe01_18e3'
 
-plain="$top/crates/test_plain/src/bus_tests/tests/plain.rt"
+plain="$top/bench/plain.rattle"
 {
     echo '#![tactic(auto)]'
     sed -n '/^ghost use/p' "$plain"

@@ -1,9 +1,9 @@
 //! What the keeper and a hart do with a grant of the slot.
 
-ghost use Rattle.std.specs.Prelude.{◌≡◌, ◌≢◌, ◌<◌, ◌+◌, true, None, Some, length};
+ghost use Rattle.std.specs.Prelude.{◌≡◌, ◌≢◌, ◌<◌, ◌+◌, None, Some, IfSome, length};
+ghost use Rattle.slot_bind.specs.declared.slot.Asked.TheVariants.{Open};
 ghost use Rattle.word_rule.specs.declared.entry.Grant.{Grant};
 ghost use Rattle.word_rule.specs.Views.{kept_at, row_of};
-ghost use Rattle.slot_bind.specs.declared.slot.Asked.TheVariants.{Open};
 ghost use Rattle.test_words.specs.BindTests.Stocked.{HasAsked, HasPosted, IsCalling, IsFor, IsNew, IsStocked};
 
 use crate::bind_tests::words::{LAZY, SLOT};
@@ -26,7 +26,7 @@ pub fn granted(number: u64, value: u64) -> Offer
     }
 }
 
-/// A hart calls, and is granted the slot; false where it wasn't found calling.
+/// A hart calls, and is granted the slot; none where it wasn't found calling.
 pub fn grant<J: Naming>(
     memory: &Memory<J>,
     keeper: &mut KeeperSeat<J>,
@@ -34,23 +34,23 @@ pub fn grant<J: Naming>(
     hart: HartId,
     event: &Event,
     granted: &Offer,
-) -> bool
+) -> Option<()>
     requires hart { hart < 16 }
     requires new { IsNew seat.old }
     requires stocked { IsStocked (kept_at keeper.old) }
     requires free { (row_of keeper.old hart).pending ≡ None }
     requires granted { IsFor granted.now (length keeper.old.events + 1) }
     requires few { length keeper.old.events < 1000 }
-    ensures posted { result ≡ true → HasPosted keeper.old keeper.new hart }
+    ensures posted { IfSome result (λ _. HasPosted keeper.old keeper.new hart) }
     ensures calling { IsCalling seat.new }
 {
     begin_call(memory, seat);
     if !calling(memory, keeper, hart) {
-        return false;
+        return None;
     }
     count_up(memory, keeper, event);
     post(memory, keeper, hart, granted);
-    true
+    Some(())
 }
 
 /// A hart takes its grant, exchanges the slot's word and gives the row back: what came of it, and where it

@@ -8,5 +8,5 @@ post-requires-clause-may g c = may_post c.args.keeper.now c.args.hart c.calling.
     c.calling.ensures.known c.count_up.ensures c.requires.stocked c.requires.free c.requires.granted
 
 pub returns-clause-posted : goal.returns-clause-posted
-returns-clause-posted g c = λ _. has_posted c.args.keeper.now c.args.hart c.calling.ensures.long c.requires.hart c.calling.result c.calling.new.keeper c.count_up.new.keeper c.post.new.keeper
+returns-clause-posted g c = has_posted c.args.keeper.now c.args.hart c.calling.ensures.long c.requires.hart c.calling.result c.calling.new.keeper c.count_up.new.keeper c.post.new.keeper
     (grant_of c.args.granted.now c.count_up.new.keeper.generation) c.args.event.now (search rules) c.calling.ensures.known c.count_up.ensures c.post.ensures.posted

@@ -1,2 +1,0 @@
-mod basics;
-mod sources;
