@@ -6,6 +6,7 @@ mod Nobodys
 mod Once
 mod Running
 mod Slices
+mod Spending
 mod Standing
 mod Stepping
 mod Told

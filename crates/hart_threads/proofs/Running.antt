@@ -102,7 +102,7 @@ pub none_of : (end : Option HartEnd) → ((reason : HartEnd) → end ≡ Some re
 none_of None none = refl
 none_of (Some reason) none = absurd (none reason refl)
 
-ending : (before mid : HartView) (b e : HartState) (result : Option Turned) (reason : HartEnd) → ((s : State) → TakesQuiet before mid (due s b) b e result) → end_of result ≡ Some reason
+pub ending : (before mid : HartView) (b e : HartState) (result : Option Turned) (reason : HartEnd) → ((s : State) → TakesQuiet before mid (due s b) b e result) → end_of result ≡ Some reason
     → (s : State) → TakesQuiet before mid (due s b) b e (Some (Ends reason))
 ending before mid b e result reason quiet is s = subst (λ (r : Option Turned). TakesQuiet before mid (due s b) b e r) (ends_so result reason is) (quiet s)
 
@@ -123,7 +123,7 @@ module _ (w : Setting) (begun : List Event) (before mid : HartView) (b e : HartS
 -- ---- thread-local storage is asked for
 
 -- nothing but the trail has changed
-asked_same : (before mid : HartView) (b a : HartState) (d : BlockTable) (number offset : ℕ) → ReadsBlock before mid d number offset b a false → a ≡ b
+pub asked_same : (before mid : HartView) (b a : HartState) (d : BlockTable) (number offset : ℕ) → ReadsBlock before mid d number offset b a false → a ≡ b
 asked_same before mid b a d number offset x = by (kept_in d x.generation number) refl
   where
     by : (k : Option ℕ) → kept_in d x.generation number ≡ k → a ≡ b

@@ -1,4 +1,4 @@
--- A hart whose opening waits asks by a name, whatever the linker's state.
+-- A hart whose opening waits asks by a name, whatever the linker's state; and a hart that runs has a next turn.
 use Rattle.std.proofs.Common.{◌≡◌, ℕ, Bool, true, false, cond, eq-eqb, nat_lt, List, [], ◌∷◌, length, Option, Some, None, refl, sym, ap, ◌∙◌}
 use Rattle.std.specs.Prelude.{◌%◌, ◌==◌}
 use Rattle.std.proofs.lemmas.Bool.{false≢true}
@@ -31,8 +31,12 @@ use Rattle.hart_linker.specs.Serving.{is_asking}
 abbrev is_wait : Due → Bool
 is_wait d = elim d [ Due.wait for ↦ true | _ ↦ false ]
 
+-- a turn that comes, and is no wait
+abbrev is_calm : Due → Bool
+is_calm d = elim d [ Due.nothing ↦ false | Due.wait for ↦ false | _ ↦ true ]
+
 abbrev IsCalm : Due → Type 0
-IsCalm d = is_wait d ≡ false
+IsCalm d = is_calm d ≡ true
 
 either : (t : Bool) (x y : Due) → IsCalm x → IsCalm y → IsCalm (cond t x y)
 either true x y a b = a
@@ -92,7 +96,8 @@ abbrev pub AsksOther : Due → Type 0
 AsksOther d = (is_asking d ≡ true) × (is_located d ≡ false)
 
 no_wait : (d : Due) → IsCalm d → is_wait d ≡ true → ⊥
-no_wait d calm is = false≢true (sym calm ∙ is)
+no_wait (Due.wait for) calm is = false≢true calm
+no_wait _ calm is = false≢true is
 
 name_asks : (s : State) (b : HartState) (n : Naming) (name version : List ℕ) → AsksOther (Due.serve (call_of s b.registers n name version) (back b))
 unfolding call_of
@@ -170,3 +175,42 @@ module _ (b : HartState) (asked : code_call) where
 
   pub closing_asks : (serial : ℕ) → ((s : State) → due_in s b (code_due.Wait (shown.Closing serial) asked) ≡ due s b) → (s : State) → AsksOther (due s b)
   closing_asks serial = still_asks (shown.Closing serial) (one_object serial (states.Dying 0)) (closes_there serial)
+
+-- ---- a hart that runs has a next turn
+
+abbrev is_nothing : Due → Bool
+is_nothing d = elim d [ Due.nothing ↦ true | _ ↦ false ]
+
+calm_comes : (d : Due) → IsCalm d → is_nothing d ≡ false
+calm_comes Due.nothing calm = absurd (false≢true calm)
+calm_comes _ calm = refl
+
+one_comes : (t : Bool) (x y : Due) → is_nothing x ≡ false → is_nothing y ≡ false → is_nothing (cond t x y) ≡ false
+one_comes true x y a b = a
+one_comes false x y a b = b
+
+phase_comes : (s : State) (b : HartState) (p : Phase) → is_nothing (by_phase s b p) ≡ false
+unfolding by_phase
+phase_comes s b Phase.at_pc =
+    calm_comes (elim (service_at b.registers.pc) [ Some service ↦ at_service s b service | None ↦ Due.instruction ]) (pc_calm s b (service_at b.registers.pc))
+phase_comes s b (Phase.naming n bytes) = refl
+phase_comes s b (Phase.versioning name bytes) = refl
+phase_comes s b (Phase.named n name version) = refl
+phase_comes s b (Phase.waiting n name version for) =
+    one_comes (is_still s for) (Due.wait for) (Due.serve (call_of s b.registers n name version) (back b)) refl refl
+phase_comes s b (Phase.pairing bytes) =
+    one_comes (nat_lt (length bytes) 16) (Due.copy Copy.of_pair (a0 b.registers) bytes) (Due.serve (call.locates (number_in bytes 0) (number_in bytes 8)) (back b)) refl refl
+phase_comes s b (Phase.writing bytes) =
+    one_comes (nat_lt (length bytes) (write_count b.registers)) (Due.copy (Copy.of_text (write_count b.registers)) (a1 b.registers) bytes) (Due.serve (call.writes bytes) (behind b)) refl refl
+phase_comes s b (Phase.storing text stored word more) = refl
+
+pub has_next : (s : State) (b : HartState) → b.«end» ≡ None → due s b ≡ Due.nothing → ⊥
+unfolding due
+has_next s b runs is =
+    false≢true (sym (comes b.resolving) ∙ ap is_nothing (sym (ap (λ (e : Option HartEnd). elim e [ Some reason ↦ Due.nothing | None ↦ by_resolving s b b.resolving ]) runs) ∙ is))
+  where
+    comes : (r : Resolving) → is_nothing (by_resolving s b r) ≡ false
+    comes Resolving.idle = one_comes (nat_lt b.turns b.fuel) (by_phase s b b.phase) Due.fuel_out (phase_comes s b b.phase) refl
+    comes (Resolving.to_exchange o) = refl
+    comes (Resolving.to_finish o found) = refl
+    comes (Resolving.to_settle o found) = one_comes (nat_lt b.turns b.fuel) (by_phase s b b.phase) Due.fuel_out (phase_comes s b b.phase) refl

@@ -1,5 +1,5 @@
 -- A turn of a hart, and the way on that turns make. For the loop of a hart.
-use Rattle.std.specs.Prelude.{◌≡◌, ℕ, ◌+◌, ◌≤◌, List, ◌++◌, length, take}
+use Rattle.std.specs.Prelude.{◌≡◌, ℕ, ◌+◌, ◌≤◌, ◌<◌, List, ◌++◌, length, take, IsSome}
 use Rattle.word_rule.specs.declared.view.HartView.{HartView}
 use Rattle.word_rule.specs.declared.view.TrailItem.{TrailItem}
 use Rattle.word_rule.specs.Views.{BeginsWith}
@@ -8,6 +8,7 @@ use Rattle.hart_moves.specs.Follows.{HasNone, Turned, TurnsAt}
 use Rattle.hart_moves.specs.Harts.{HartState}
 use Rattle.hart_moves.specs.Moves.{events_of}
 use Rattle.hart_trails.specs.Trails.{FollowsBy, Leaves}
+use Rattle.hart_threads.specs.Next.{HoldsSlot}
 
 -- one turn, over all events that the hart knows then: none of its own came since it heard of them last, and its own stand last; and what it left
 pub record TakesTurn (w : Setting) (before now : HartView) (b c : HartState) (items : List TrailItem) : Type 0 where
@@ -19,6 +20,17 @@ pub record TakesTurn (w : Setting) (before now : HartView) (b c : HartState) (it
   pub turns : TurnsAt w now.heard before.number turn b c
   pub last : length now.heard ≡ turn.at + length (events_of turn.did)
   pub leaves : Leaves (take turn.at now.heard) b turn.beside turn.did items
+
+-- it spent a turn that it had left; or the two of a slot that was granted, which it doesn't hold any more; or it has ended
+pub data SpendsTurns (b c : HartState) : Type 0 where
+  one : b.turns < b.fuel → c.turns ≡ b.turns + 1 → SpendsTurns b c
+  of_slot : HoldsSlot b → (HoldsSlot c → ⊥) → c.turns ≡ b.turns + 2 → SpendsTurns b c
+  last : IsSome c.«end» → SpendsTurns b c
+
+-- how many turns it may take stays, and so its fuel is used up sooner or later
+pub record SpendsFuel (b c : HartState) : Type 0 where
+  pub fuel : c.fuel ≡ b.fuel
+  pub turns : SpendsTurns b c
 
 -- from a state behind so many events the hart has followed to its present one, as far as it has heard; its trail has what that left behind what
 -- stood there

@@ -4,6 +4,7 @@ ghost use Rattle.std.specs.Prelude.{◌≡◌, ◌<◌, true, false, None, IsSom
 ghost use Rattle.hart_moves.specs.Due.{Due as is_due, back, due};
 ghost use Rattle.hart_threads.specs.Next.{HoldsSlot};
 ghost use Rattle.hart_threads.specs.Run.{HasStarted, IsCalm, RunsOn};
+ghost use Rattle.hart_threads.specs.Turns.{SpendsFuel};
 ghost use Rattle.hart_trails.specs.Trails.{is_located};
 ghost use Rattle.hart_turns.specs.Turns.{is_own};
 ghost use Rattle.history_calls.specs.Call.{locates};
@@ -17,6 +18,7 @@ use crate::next::{Next, next_turn};
 use crate::quiet::{end_of, take_quiet};
 use hart_fits::own_moves_fit;
 use hart_linker::{HartBlocks, Linker, Opening};
+use hart_moves::turns_are_counted;
 use hart_seat::LinkedHart;
 use hart_trails::trails_grow;
 use history_event::HartEnd;
@@ -32,43 +34,36 @@ pub struct HartRun<J: Opening> {
 }
 
 impl<J: Opening> HartRun<J> {
-    /// Runs until the constructors of startup are over, or the hart has ended.
+    /// Runs until the constructors of startup are over, or the hart has ended, at the latest for its fuel.
     pub fn start<R: Wait, K: Linker<J>>(&mut self, rt: &R, linker: &K, memory: &Memory<J>)
         requires between { IsBetweenTurns J.setting J.journal self.old.seat self.old.hart.hart self.old.blocks }
         requires calm { IsCalm self.old.seat self.old.hart.hart }
         ensures runs { RunsOn J.setting J.journal self.old.seat self.new.seat self.old.hart.hart self.new.hart.hart self.new.blocks }
         ensures over { HasStarted self.new.hart.hart }
     {
-        for _ in rt.forever() {
-            if self.hart.end().is_some() || !self.hart.is_starting() {
-                return;
-            }
+        while self.hart.end().is_none() && self.hart.is_starting() {
             self.turn(rt, linker, memory);
         }
-        unreachable!()
     }
 
-    /// Runs until the hart has ended.
+    /// Runs until the hart has ended, at the latest for its fuel.
     pub fn run<R: Wait, K: Linker<J>>(&mut self, rt: &R, linker: &K, memory: &Memory<J>)
         requires between { IsBetweenTurns J.setting J.journal self.old.seat self.old.hart.hart self.old.blocks }
         requires calm { IsCalm self.old.seat self.old.hart.hart }
         ensures runs { RunsOn J.setting J.journal self.old.seat self.new.seat self.old.hart.hart self.new.hart.hart self.new.blocks }
         ensures ended { IsSome self.new.hart.hart.«end» }
     {
-        for _ in rt.forever() {
-            if self.hart.end().is_some() {
-                return;
-            }
+        while self.hart.end().is_none() {
             self.turn(rt, linker, memory);
         }
-        unreachable!()
     }
 
     /// Takes the hart's next turn, if one is due; of a slot that was granted, the two that are.
     fn turn<R: Wait, K: Linker<J>>(&mut self, rt: &R, linker: &K, memory: &Memory<J>)
         requires between { IsBetweenTurns J.setting J.journal self.old.seat self.old.hart.hart self.old.blocks }
         requires runs { self.old.hart.hart.«end» ≡ None }
-        ensures { RunsOn J.setting J.journal self.old.seat self.new.seat self.old.hart.hart self.new.hart.hart self.new.blocks }
+        ensures runs { RunsOn J.setting J.journal self.old.seat self.new.seat self.old.hart.hart self.new.hart.hart self.new.blocks }
+        ensures spends { SpendsFuel self.old.hart.hart self.new.hart.hart }
     {
         match next_turn(&self.hart) {
             Next::Bind => self.bind(memory),
@@ -86,7 +81,8 @@ impl<J: Opening> HartRun<J> {
         requires between { IsBetweenTurns J.setting J.journal self.old.seat self.old.hart.hart self.old.blocks }
         requires runs { self.old.hart.hart.«end» ≡ None }
         requires slot { HoldsSlot self.old.hart.hart }
-        ensures { RunsOn J.setting J.journal self.old.seat self.new.seat self.old.hart.hart self.new.hart.hart self.new.blocks }
+        ensures runs { RunsOn J.setting J.journal self.old.seat self.new.seat self.old.hart.hart self.new.hart.hart self.new.blocks }
+        ensures spends { SpendsFuel self.old.hart.hart self.new.hart.hart }
     {
         own_moves_fit();
         trails_grow();
@@ -98,10 +94,12 @@ impl<J: Opening> HartRun<J> {
         requires between { IsBetweenTurns J.setting J.journal self.old.seat self.old.hart.hart self.old.blocks }
         requires runs { self.old.hart.hart.«end» ≡ None }
         requires own { (s : State) → is_own (due s self.old.hart.hart) ≡ true }
-        ensures { RunsOn J.setting J.journal self.old.seat self.new.seat self.old.hart.hart self.new.hart.hart self.new.blocks }
+        ensures runs { RunsOn J.setting J.journal self.old.seat self.new.seat self.old.hart.hart self.new.hart.hart self.new.blocks }
+        ensures spends { SpendsFuel self.old.hart.hart self.new.hart.hart }
     {
         own_moves_fit();
         trails_grow();
+        turns_are_counted();
         let turned = take_quiet(memory, &mut self.seat, &mut self.hart);
         if let Some(reason) = end_of(turned) {
             linker.end(rt, memory, &mut self.seat, &mut self.hart, reason);
@@ -121,10 +119,12 @@ impl<J: Opening> HartRun<J> {
         requires runs { self.old.hart.hart.«end» ≡ None }
         requires fuel { self.old.hart.hart.turns < self.old.hart.hart.fuel }
         requires asks { (s : State) → due s self.old.hart.hart ≡ is_due.serve (locates number offset) (back self.old.hart.hart) }
-        ensures { RunsOn J.setting J.journal self.old.seat self.new.seat self.old.hart.hart self.new.hart.hart self.new.blocks }
+        ensures runs { RunsOn J.setting J.journal self.old.seat self.new.seat self.old.hart.hart self.new.hart.hart self.new.blocks }
+        ensures spends { SpendsFuel self.old.hart.hart self.new.hart.hart }
     {
         own_moves_fit();
         trails_grow();
+        turns_are_counted();
         let _ = self.seat.number();
         let kept = kept_block(
             memory,
@@ -143,9 +143,11 @@ impl<J: Opening> HartRun<J> {
     fn serve<R: Wait, K: Linker<J>>(&mut self, rt: &R, linker: &K, memory: &Memory<J>)
         requires between { IsBetweenTurns J.setting J.journal self.old.seat self.old.hart.hart self.old.blocks }
         requires asks { (s : State) → (is_asking (due s self.old.hart.hart) ≡ true) × (is_located (due s self.old.hart.hart) ≡ false) }
-        ensures { RunsOn J.setting J.journal self.old.seat self.new.seat self.old.hart.hart self.new.hart.hart self.new.blocks }
+        ensures runs { RunsOn J.setting J.journal self.old.seat self.new.seat self.old.hart.hart self.new.hart.hart self.new.blocks }
+        ensures spends { SpendsFuel self.old.hart.hart self.new.hart.hart }
     {
         trails_grow();
+        turns_are_counted();
         linker.serve(rt, memory, &mut self.seat, &mut self.hart, &mut self.blocks);
     }
 
@@ -153,9 +155,11 @@ impl<J: Opening> HartRun<J> {
     fn finalise<R: Wait, K: Linker<J>>(&mut self, rt: &R, linker: &K, memory: &Memory<J>)
         requires between { IsBetweenTurns J.setting J.journal self.old.seat self.old.hart.hart self.old.blocks }
         requires last { (s : State) → is_finalising (due s self.old.hart.hart) ≡ true }
-        ensures { RunsOn J.setting J.journal self.old.seat self.new.seat self.old.hart.hart self.new.hart.hart self.new.blocks }
+        ensures runs { RunsOn J.setting J.journal self.old.seat self.new.seat self.old.hart.hart self.new.hart.hart self.new.blocks }
+        ensures spends { SpendsFuel self.old.hart.hart self.new.hart.hart }
     {
         trails_grow();
+        turns_are_counted();
         linker.finalise(rt, memory, &mut self.seat, &mut self.hart, &mut self.blocks);
     }
 
@@ -164,7 +168,8 @@ impl<J: Opening> HartRun<J> {
         requires between { IsBetweenTurns J.setting J.journal self.old.seat self.old.hart.hart self.old.blocks }
         requires runs { self.old.hart.hart.«end» ≡ None }
         requires out { (s : State) → due s self.old.hart.hart ≡ is_due.fuel_out }
-        ensures { RunsOn J.setting J.journal self.old.seat self.new.seat self.old.hart.hart self.new.hart.hart self.new.blocks }
+        ensures runs { RunsOn J.setting J.journal self.old.seat self.new.seat self.old.hart.hart self.new.hart.hart self.new.blocks }
+        ensures spends { SpendsFuel self.old.hart.hart self.new.hart.hart }
     {
         trails_grow();
         linker.end(rt, memory, &mut self.seat, &mut self.hart, HartEnd::FuelOut);
