@@ -190,6 +190,12 @@ def examples(ldso, names=None):
                 yield example
 
 
+def traced(words):
+    """The words of a command that writes its journal: those of a run on threads with `--trace`, any other ones as they are."""
+    is_silent = words.startswith("run ") and "--trace" not in words.split()
+    return words.replace("run ", "run --trace ", 1) if is_silent else words
+
+
 def is_inside(path):
     """Whether a name stays in the folder that it is looked for in."""
     return not path.startswith("/") and not os.path.normpath(path).startswith("..") and "\0" not in path

@@ -1,20 +1,24 @@
-"""Judges journals of `ldso turns` a second time, by what docs/ says of linking and of its history alone: whether each
-event may come where it comes, with the objects, addresses, choices and numbers that it has.
+"""Judges journals of `ldso turns` and `ldso run` a second time, by what docs/ says of linking and of its history alone:
+whether each event may come where it comes, with the objects, addresses, choices and numbers that it has.
 
     python3 bench/history.py                     every example of crates/test_commands/data with a journal
     python3 bench/history.py --mutated [COUNT]   and COUNT changed copies of each, which have to be refused
     python3 bench/history.py --run FOLDER WORDS  what the program prints in a folder: `turns ..`, or `run --trace ..`
 
+Where an example of `run` doesn't show its journal, one is made; bench/many_runs.py judges many of each.
+
 Objects are read by bench/oracle.py; only those that examples have as sources are made by `ldso asm`. It writes into no
-folder but temporary ones, and the examples' files into none at all. What guests do isn't followed: that a hart calls what
+folder but temporary ones. What guests do isn't followed: that a hart calls what
 it calls, what it writes, and when it ends is taken as it stands."""
 
+import dataclasses
 import os
 import random
 import re
 import shlex
 import subprocess
 import sys
+import tempfile
 from collections import Counter, defaultdict
 
 import examples
@@ -772,8 +776,9 @@ class Judge(State):
         demand(1 <= int(number) <= len(self.grants), "no such grant")
         grant = self.grants[int(number) - 1]
         demand(grant.state == "open", "the grant is settled")
-        may_wait = any(o.state != "ready" for o in self.mapped())
-        demand(grant.hart > self.settled or may_wait, "grants are settled in the order of harts")
+        # A hart that waits, or that asks for a block that is there, settles and adds no event of its own.
+        is_silent = self.modules or any(o.state != "ready" for o in self.mapped())
+        demand(grant.hart > self.settled or is_silent, "grants are settled in the order of harts")
         self.settled = grant.hart
         return grant
 
@@ -922,11 +927,35 @@ def given(example):
     return example.words, {path.encode(): data for path, data in example.files.items()}, example.fails
 
 
+def printed(folder, words):
+    """The lines that the program prints in a folder."""
+    ldso = str(examples.program().resolve())
+    return subprocess.run([ldso, *words], cwd=folder, stdout=subprocess.PIPE, text=True, check=False).stdout.splitlines()
+
+
+def traced(example):
+    """The example with its journal, of a run on threads that doesn't show it; None where its files can't be laid out."""
+    words = examples.traced(example.words)
+    if words == example.words:
+        return example
+    with tempfile.TemporaryDirectory() as root:
+        folder = examples.lay_out(root, example.files)
+        if folder is None or example.fails:
+            return None
+        return dataclasses.replace(example, words=words, lines=printed(folder, shlex.split(words)))
+
+
+def journals():
+    """Each example with a journal, but for those with a file of more than a MiB, for which the second reader takes long."""
+    for example in examples.examples(str(examples.program().resolve())):
+        example = traced(example) if all(len(data) <= 1 << 20 for data in example.files.values()) else None
+        if example and example.words.startswith(("turns ", "run ")) and example.lines and example.lines[0].startswith("open "):
+            yield example
+
+
 def run(folder, words):
     """Runs the program in a folder, and judges what it prints."""
-    ldso = str(examples.program().resolve())
-    done = subprocess.run([ldso, *words], cwd=folder, stdout=subprocess.PIPE, text=True)
-    lines = done.stdout.splitlines()
+    lines = printed(folder, words)
     why = judge(shlex.join(words), Folder(folder), [], lines)
     print(f"line {why[0]}, {lines[why[0] - 1]}: {why[1]}" if why else f"{len(lines)} lines: a legal journal")
     return why is not None
@@ -999,12 +1028,10 @@ def main(words):
     if words[:1] == ["--run"]:
         return run(words[1], words[2:])
     count = int(words[1]) if len(words) > 1 else 200 if words[:1] == ["--mutated"] else 0
-    chance, journals, events, wrong = random.Random(1), 0, 0, 0
+    chance, number, events, wrong = random.Random(1), 0, 0, 0
     seen, passed, own = Counter(), Counter(), Counter()
-    for example in examples.examples(str(examples.program().resolve())):
-        if not example.words.startswith("turns ") or not example.lines or not example.lines[0].startswith("open "):
-            continue
-        journals, events = journals + 1, events + len(example.lines) - 1
+    for example in journals():
+        number, events = number + 1, events + len(example.lines) - 1
         why = judge(*given(example), example.lines)
         if why:
             wrong += 1
@@ -1017,9 +1044,9 @@ def main(words):
         for kind, n, line in sorted(set(taken)):
             if not is_guests_own(example.lines, kind, n, line):
                 print(f"{example.source}:{example.line} {example.title}: line {n + 1} {kind}: {line}")
-    print(f"{journals} journals, {events} events: {wrong} refused")
-    for kind, number in sorted(seen.items()):
-        print(f"{number} copies with a line {kind}: {own[kind]} may be another run's, {passed[kind]} others taken")
+    print(f"{number} journals, {events} events: {wrong} refused")
+    for kind, copies in sorted(seen.items()):
+        print(f"{copies} copies with a line {kind}: {own[kind]} may be another run's, {passed[kind]} others taken")
     return wrong > 0 or bool(passed)
 
 

@@ -1,11 +1,13 @@
-"""Runs five examples under `ldso turns` with one allocation refused, the Nth, for each N that they make:
+"""Runs five examples under `ldso turns` and under `ldso run` with one allocation refused, the Nth, for each N that they make:
 
-    nice python3 bench/refused_allocations.py [EXAMPLE..]
+    nice python3 bench/refused_allocations.py [COMMAND] [EXAMPLE..]
 
-A run has to end with status 123 or with that of the example, and its text has to be a front of the example's, up to
-the first hart that ends for want of memory; a run may not take longer than a minute. What doesn't hold is told, with
-its N. A small library, which cc compiles and LD_PRELOAD puts before the C library's, refuses the allocation. The
-program is that of LDSO, or crates/ldso/out/ldso."""
+A run has to end with status 123 or with that of the example, and may not take longer than a minute. Under `turns` its
+text has to be a front of the example's, up to the first hart that ends for want of memory. Under `run --trace`, whose
+harts come in any order, its last line has to be the example's or that of a hart that wanted memory, and its journal has
+to be legal and whole for bench/history.py; or nothing is written. What doesn't hold is told, with its N. A small library,
+which cc compiles and LD_PRELOAD puts before the C library's, refuses the allocation. The program is that of LDSO, or
+crates/ldso/out/ldso."""
 
 import os
 import subprocess
@@ -15,14 +17,24 @@ from collections import Counter
 from pathlib import Path
 
 import examples
+import history
 
 SECONDS = 60
 CHOSEN = {
-    "first-match": ("turns.txt", "the first definition in load order is called"),
-    "race": ("turns.txt", "two harts race for a slot"),
-    "late-tls": ("turns.txt", "a block goes with its library"),
-    "realistic": ("assembled.txt", "three harts bind the forty slots, a turn each"),
-    "cycle": ("closing.txt", "two libraries that are bound to each other are closed together"),
+    "turns": {
+        "first-match": ("turns.txt", "the first definition in load order is called"),
+        "race": ("turns.txt", "two harts race for a slot"),
+        "late-tls": ("turns.txt", "a block goes with its library"),
+        "realistic": ("assembled.txt", "three harts bind the forty slots, a turn each"),
+        "cycle": ("closing.txt", "two libraries that are bound to each other are closed together"),
+    },
+    "run": {
+        "first-match": ("threads.txt", "the first definition in load order is called on a thread"),
+        "race": ("threads.txt", "two harts on threads race for a slot"),
+        "late-tls": ("threads.txt", "each hart on a thread has its own block of a library"),
+        "realistic": ("assembled.txt", "forty slots are bound on threads"),
+        "cycle": ("threads.txt", "two libraries that are bound to each other are closed together on a thread"),
+    },
 }
 REFUSER = r"""
 #define _GNU_SOURCE
@@ -93,13 +105,14 @@ class Runs:
 
     def __init__(self, ldso, refuser, example, root):
         self.ldso, self.refuser, self.example = ldso, refuser, example
+        self.words = examples.traced(example.words)
         self.count = Path(root, "count")
         self.place = examples.lay_out(root, example.files)
 
     def run(self, number):
         """The status and the text with one allocation refused; the status is None after too long a time."""
         added = {"LD_PRELOAD": str(self.refuser), "REFUSED": str(number), "COUNTED": str(self.count)}
-        words = [str(self.ldso), *self.example.words.split()]
+        words = [str(self.ldso), *self.words.split()]
         try:
             done = subprocess.run(words, cwd=self.place, env={**os.environ, **added}, stdout=subprocess.PIPE,
                                   stderr=subprocess.PIPE, timeout=SECONDS)
@@ -114,11 +127,13 @@ class Runs:
         """What is wrong with an answer, or None."""
         if status is None:
             return "hangs"
-        wanted = self.example.text()
-        if status == self.example.ends_with():
-            return None if text == wanted else f"status {status} with another text"
-        if status != 123:
+        if status not in (123, self.example.ends_with()):
             return f"status {status}"
+        if self.words.startswith("run "):
+            return self.complaint_of_threads(status, text)
+        wanted = self.example.text()
+        if status != 123:
+            return None if text == wanted else f"status {status} with another text"
         lines = text.splitlines()
         harts = [n for n, line in enumerate(lines) if line.startswith("ended ") and line.endswith(" memory")]
         front = lines[: harts[0]] if harts else [line for line in lines if not line.startswith("end 123 ")]
@@ -126,11 +141,22 @@ class Runs:
             return "another text than a front of the right one"
         return None
 
+    def complaint_of_threads(self, status, text):
+        """What is wrong with a journal of harts on threads, or None."""
+        if not text and status == 123:
+            return None
+        lines = text.splitlines()
+        last = "end 123 hart " if status == 123 else self.example.lines[-1]
+        why = history.judge(self.words, history.given(self.example)[1], [], lines)
+        if why or not lines[-1].startswith(last):
+            return f"status {status}, {lines[-1]}: {why}"
+        return None
+
 
 def tries(runs):
     """Refuses each allocation in turn; gives how many there are, what statuses there were, and what is wrong."""
     status, text = runs.run(0)
-    wrong = [] if status == runs.example.ends_with() and text == runs.example.text() else [f"0: status {status} unrefused"]
+    wrong = [] if status == runs.example.ends_with() and not runs.complaint(status, text) else [f"0: status {status} unrefused"]
     count, seen = runs.made(), Counter()
     for number in range(1, count + 1):
         status, text = runs.run(number)
@@ -141,18 +167,20 @@ def tries(runs):
     return count, seen, wrong
 
 
-def main(names):
+def main(words):
     ldso, failed = examples.program().resolve(), False
+    commands = [word for word in words if word in CHOSEN] or list(CHOSEN)
+    names = [word for word in words if word not in CHOSEN] or list(CHOSEN["turns"])
     with tempfile.TemporaryDirectory() as root:
         source, refuser = Path(root, "refuser.c"), Path(root, "refuser.so")
         source.write_text(REFUSER)
         subprocess.run(["cc", "-O2", "-shared", "-fPIC", "-o", refuser, source], check=True)
-        for name in names or CHOSEN:
-            file, title = CHOSEN[name]
+        for command, name in [(command, name) for command in commands for name in names]:
+            file, title = CHOSEN[command][name]
             example = next(e for e in examples.examples(ldso, [file]) if e.title == title)
-            count, seen, wrong = tries(Runs(ldso, refuser, example, Path(root, name)))
+            count, seen, wrong = tries(Runs(ldso, refuser, example, Path(root, command, name)))
             statuses = ", ".join(f"{n} with status {s}" for s, n in sorted(seen.items(), key=str))
-            print(f"{name}: {count} allocations; {statuses}; {len(wrong)} wrong", flush=True)
+            print(f"{command}, {name}: {count} allocations; {statuses}; {len(wrong)} wrong", flush=True)
             for line in wrong:
                 print(f"    {line}", flush=True)
             failed = failed or bool(wrong) or count == 0
