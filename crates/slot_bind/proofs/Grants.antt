@@ -1,5 +1,5 @@
 -- Views over the steps of the calls on grants.
-use Rattle.std.proofs.Common.{◌≡◌, ◌≢◌, ◌⊎◌, ⊎_elim, ℕ, ◌%◌, ◌<◌, Bool, true, false, eqb, eq-eqb, ne_eqb, Option, None, Some, Contains, refl, sym, ap, subst, ◌∙◌, arith}
+use Rattle.std.proofs.Common.{◌≡◌, ◌≢◌, ◌⊎◌, ⊎_elim, ℕ, ◌%◌, ◌<◌, Bool, true, false, eqb, eq-eqb, ne_eqb, List, Option, None, Some, Contains, refl, sym, ap, subst, ◌∙◌, arith}
 use Rattle.std.proofs.lemmas.List.Elements.{Contains-push}
 use Rattle.history_event.specs.declared.handed.Offer.{Offer}
 use Rattle.word_rule.specs.declared.entry.Grant.{Grant}
@@ -15,7 +15,7 @@ use Rattle.word_rule.specs.declared.view.Offer.{Offer as ReadOffer}
 use Rattle.word_rule.specs.declared.view.Row.{Row}
 use Rattle.word_rule.specs.Allowed.{IsLost, IsOf}
 use Rattle.word_rule.specs.HartSteps.{HartReady, entered, finished, hart_after, with_lane_of}
-use Rattle.word_rule.specs.KeeperSteps.{KeeperReady, TellsAsk, TellsSlot, asked, asked_if, fixed_by, fixed_if, heeding, keeper_after, losing, settled_as, with_kept, with_row}
+use Rattle.word_rule.specs.KeeperSteps.{KeeperReady, TellsAsk, TellsSlot, asked, asked_if, asked_in, fixed_by, fixed_if, heeding, keeper_after, losing, opens_if, settled_as, with_kept, with_row}
 use Rattle.word_rule.specs.Layout.{address_of, doublewords, IsDoubleword, place_of}
 use Rattle.word_rule.specs.Views.{IsLong, grant_in, kept_at, offered, row_of, with_offered}
 use Rattle.word_rule.specs.declared.view.TrailItem.TheVariants.{Done}
@@ -27,7 +27,7 @@ use Rattle.slot_bind.specs.declared.slot.Asked.TheVariants.{Open, Won as SaysWon
 use Rattle.slot_bind.specs.declared.slot.Bound.{Bound}
 use Rattle.slot_bind.specs.declared.slot.Bound.TheVariants.{Won, Lost}
 use Rattle.slot_bind.specs.Rows.{full_offer, offer_of, offer_or, with_offer}
-use Rattle.slot_bind.specs.Grants.{IsBound, IsOffered, Says, asked_row, asked_view, exchange_of, exchanged, fated_view, found_by, given_back, grant_read, is_won, with_look}
+use Rattle.slot_bind.specs.Grants.{IsBound, IsOffered, Says, asked_row, asked_view, exchange_of, exchanged, fated_view, found_by, given_back, grant_read, is_won, opens_by, with_look}
 use Rattle.slot_bind.proofs.Harts.{idle_heeded}
 
 -- ---- an exchange
@@ -116,8 +116,15 @@ says n all Open is r = ap (λ s. asked_if (eqb s 3) (eqb s 4) (eqb s 5) r) is
 says n all SaysWon is r = ap (λ s. asked_if (eqb s 3) (eqb s 4) (eqb s 5) r) is
 says n all (SaysLost saw) is r = ap (λ s. asked_if (eqb s 3) (eqb s 4) (eqb s 5) r) is
 
-pub asks : (k k' : KeeperView) (m n : ℕ) (a : Asked) → IsResting k → TellsAsk k m n → k' ≡ keeper_after (keepers.Ask m) k n → Says n a → k' ≡ with_row m (asked_row a (row_of k m)) k
-asks k k' m n a r told is say = is ∙ (ap (λ k. with_row m (asked n (row_of k m)) k) (heeds k r.note) ∙ ap (λ s. with_row m s k) (says n told.state a say (row_of k m)))
+-- and whether it is open
+opens : (m n : ℕ) (a : Asked) → Says n a → (before : List ℕ) → opens_if m (eqb (n % 8) 3) before ≡ opens_by m a before
+opens m n Open is before = ap (λ s. opens_if m (eqb s 3) before) is
+opens m n SaysWon is before = ap (λ s. opens_if m (eqb s 3) before) is
+opens m n (SaysLost saw) is before = ap (λ s. opens_if m (eqb s 3) before) is
+
+pub asks : (k k' : KeeperView) (m n : ℕ) (a : Asked) → IsResting k → TellsAsk k m n → k' ≡ keeper_after (keepers.Ask m) k n → Says n a → k' ≡ fated_view m a k
+asks k k' m n a r told is say = is ∙ ap (asked_in m n) (heeds k r.note)
+    ∙ (λ i. record (with_row m (says n told.state a say (row_of k m) i) k) { opens = opens m n a say k.opens i })
 
 pub lost_state : (n : ℕ) → (n % 8 ≡ 3) ⊎ (n % 8 ≡ 4) ⊎ (n % 8 ≡ 5) → n % 8 ≢ 3 → n % 8 ≢ 4 → n % 8 ≡ 5
 lost_state n all three four = ⊎_elim (λ (e : n % 8 ≡ 3). absurd (three e)) (λ h. ⊎_elim (λ (e : n % 8 ≡ 4). absurd (four e)) (λ (e : n % 8 ≡ 5). e) h) all

@@ -1,5 +1,5 @@
 -- What the calls on grants leave in the views of a hart and of the keeper.
-use Rattle.std.specs.Prelude.{◌≡◌, ◌≢◌, ℕ, ◌%◌, ◌<◌, Bool, true, false, [], ◌∷◌, ◌++◌, length, None, Some}
+use Rattle.std.specs.Prelude.{◌≡◌, ◌≢◌, ℕ, ◌%◌, ◌<◌, Bool, true, false, List, [], ◌∷◌, ◌++◌, length, None, Some}
 use Rattle.history_event.specs.declared.handed.Offer.{Offer}
 use Rattle.word_rule.specs.declared.entry.Exchange.{Exchange}
 use Rattle.word_rule.specs.declared.entry.Grant.{Grant}
@@ -113,9 +113,14 @@ asked_row Open r = record r { found_open = true }
 asked_row SaysWon r = settled_as FateWon r.pending r
 asked_row (SaysLost saw) r = settled_as FateLost r.pending r
 
+-- a row that was found open is kept in mind
+abbrev pub opens_by : ℕ → Asked → List ℕ → List ℕ
+opens_by m Open before = before ++ m ∷ []
+opens_by m _ before = before
+
 -- the keeper's view once the grant's fate is known
 abbrev pub fated_view : ℕ → Asked → KeeperView → KeeperView
-fated_view m answer k = with_row m (asked_row answer (row_of k m)) k
+fated_view m answer k = record (with_row m (asked_row answer (row_of k m)) k) { opens = opens_by m answer k.opens }
 
 -- a slot was looked at, for the lost grant in a hart's row
 abbrev pub with_look : ℕ → ℕ → ℕ → KeeperView → KeeperView

@@ -2,7 +2,7 @@
 
 ghost use Rattle.std.specs.Prelude.{◌≡◌, ◌<◌, ℕ, nat_le};
 ghost use Rattle.word_rule.specs.declared.view.HartView.{HartView};
-ghost use Rattle.word_rule.specs.KeeperSteps.{HasEnded, HasTakenAll, awaited_if, with_row};
+ghost use Rattle.word_rule.specs.KeeperSteps.{AreJoinedOnce, HasEnded, HasTakenAll, awaited_if, with_row};
 ghost use Rattle.word_rule.specs.Allowed.{IsDecided, IsSlot};
 ghost use Rattle.word_rule.specs.Views.{IsLong, kept_at, row_of, with_field};
 ghost use Rattle.word_steps.specs.Views.{IsResting};
@@ -21,6 +21,7 @@ pub fn calling<J: Naming>(memory: &Memory<J>, keeper: &mut KeeperSeat<J>, hart: 
     ensures known { keeper.new ≡ awaited_if hart result keeper.old }
     ensures ended { (state : ℕ) × (result ≡ nat_le 8 state) × ((h : HartView) → HasEnded keeper.old hart h → HasTakenAll keeper.old hart state h) }
     ensures slots { (d : ℕ) → IsSlot (kept_at keeper.old) d → IsDecided (kept_at keeper.old) (row_of keeper.old) d }
+    ensures joined { AreJoinedOnce keeper.old }
     ensures long { IsLong keeper.old }
 {
     await_row(memory, keeper, u64::from(hart.number())) >= 8
@@ -32,6 +33,7 @@ fn await_row<J: Naming>(memory: &Memory<J>, keeper: &mut KeeperSeat<J>, hart: u6
     ensures known { keeper.new ≡ awaited_if hart (nat_le 8 result) keeper.old }
     ensures ended { (h : HartView) → HasEnded keeper.old hart h → HasTakenAll keeper.old hart result h }
     ensures slots { (d : ℕ) → IsSlot (kept_at keeper.old) d → IsDecided (kept_at keeper.old) (row_of keeper.old) d }
+    ensures joined { AreJoinedOnce keeper.old }
     ensures long { IsLong keeper.old }
 {
     keeper.load_word(memory, state_word(hart), KeeperKind::Await(hart))

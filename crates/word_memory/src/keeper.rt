@@ -4,14 +4,14 @@ ghost use Rattle.std.specs.Prelude.{◌≡◌, ◌<◌, ◌+◌, ◌↔◌, ℕ,
 ghost use Rattle.ld_base.specs.declared.linking.Role.TheVariants.{Rw, Slot};
 ghost use Rattle.word_rule.specs.declared.view.Offer.{Offer};
 ghost use Rattle.word_rule.specs.Joining.{IsSettled};
-ghost use Rattle.word_rule.specs.KeeperSteps.{KeeperLearns, KeeperLeaves, KeeperReady, keeper_after, keeper_op, keeper_word};
+ghost use Rattle.word_rule.specs.KeeperSteps.{KeeperLearns, KeeperLeaves, KeeperReady, keeper_after, keeper_op, keeper_word, retired};
 ghost use Rattle.word_rule.specs.Layout.{IsDoubleword, place_of, table_words};
 ghost use Rattle.word_rule.specs.Operations.{load, store};
 ghost use Rattle.word_rule.specs.Views.{BeginsWith, IsLong, NoneAbove, first_hart, kept_at, known_of, readings_of, row_of};
 ghost use Rattle.word_steps.specs.Knowing.{counted, with_joined};
 ghost use Rattle.word_steps.specs.Showing.{IsShown};
 ghost use Rattle.word_steps.specs.Views.{IsResting};
-ghost use Rattle.word_access.specs.WordKeeping.Keeping.{retired, set_as, was_shown};
+ghost use Rattle.word_access.specs.WordKeeping.Keeping.{set_as, was_shown};
 ghost use Rattle.word_memory.specs.Roles.{MayRetire, MaySet};
 
 use crate::HartSeat;

@@ -1,9 +1,13 @@
 -- The worked steps, by computation.
-use Rattle.std.proofs.Common.{◌≡◌, ◌≤◌, ◌<◌, arith, true, false, [], ◌∷◌, ◌++◌, refl, ap, ◌∙◌, inr}
+use Rattle.std.proofs.Common.{◌≡◌, ℕ, ◌≤◌, ◌<◌, arith, true, false, [], ◌∷◌, ◌++◌, refl, ap, ◌∙◌, inr}
+use Rattle.ld_base.specs.declared.linking.Role.{Role}
+use Rattle.ld_base.specs.declared.linking.Role.TheVariants.{Slot as SlotRole}
 use Rattle.word_rule.specs.declared.kind.StoreAsk.TheVariants.{Conditional}
+use Rattle.word_rule.specs.declared.view.KeeperView.{KeeperView}
+use Rattle.word_rule.specs.Views.{kept_at}
 use Rattle.word_rule.specs.HartSteps.{is_fresh, last_control}
 use Rattle.word_rule.specs.Layout.{doublewords, place_of}
-use Rattle.word_rule.specs.Worked.{AnotherHasLocked, ConditionalFails, ConditionalIsRefused, LockIsShown, LookKeeps, OneLocks, OneWins, RoleComesAndGoes, RowGoesRound, StoreIsOwed}
+use Rattle.word_rule.specs.Worked.{AnotherHasLocked, ConditionalFails, ConditionalIsRefused, LockIsShown, LookKeeps, OneLocks, OneWins, RoleComesAndGoes, RolesGoInOrder, RowGoesRound, StoreIsOwed}
 
 pub one_locks : OneLocks
 one_locks = (refl, refl, refl, refl)
@@ -35,6 +39,17 @@ one_wins = (refl, refl, refl, refl)
 
 pub role_comes_and_goes : RoleComesAndGoes
 role_comes_and_goes = (refl, refl, refl, refl)
+
+pub roles_go_in_order : RolesGoInOrder
+roles_go_in_order k none_yet slot = (
+  behind 0 SlotRole k k.generation none_yet slot,
+  (λ l is rx. ap (λ gone. gone ++ record { at = 1; role = (kept_at l 1).role; generation = l.generation } ∷ []) is
+      ∙ ap (λ r. record { at = 0; role = SlotRole; generation = k.generation } ∷ record { at = 1; role = r; generation = l.generation } ∷ []) rx),
+)
+  where
+    behind : (d : ℕ) (r : Role) (k : KeeperView) (g : ℕ) → k.retired ≡ [] → (kept_at k d).role ≡ r
+        → k.retired ++ record { at = d; role = (kept_at k d).role; generation = g } ∷ [] ≡ record { at = d; role = r; generation = g } ∷ []
+    behind d r k g none is = ap (λ gone. gone ++ record { at = d; role = (kept_at k d).role; generation = g } ∷ []) none ∙ ap (λ r. record { at = d; role = r; generation = g } ∷ []) is
 
 pub look_keeps : LookKeeps
 look_keeps = (refl, refl)

@@ -47,6 +47,12 @@ abbrev pub keeps_if : ℕ → Bool → KeeperView → KeeperView
 keeps_if d true k = accessing (record { locked = Some d; held = None; last = None }) k
 keeps_if d false k = accessing nothing_locked k
 
+-- a doubleword's role is taken away, at this generation
+abbrev pub retired : ℕ → KeeperView → KeeperView
+retired d k = record (with_kept d (record (kept_at k d) { role = NoRole }) k) {
+  retired = k.retired ++ record { at = d; role = (kept_at k d).role; generation = k.generation } ∷ [];
+}
+
 -- a slot was looked at: a word that isn't the lazy word stays
 abbrev pub fixed_if : ℕ → Bool → Kept → Kept
 fixed_if n true x = x
@@ -86,6 +92,14 @@ asked_if false false false r = r
 
 abbrev pub asked : ℕ → Row → Row
 asked state r = asked_if (eqb (state % 8) 3) (eqb (state % 8) 4) (eqb (state % 8) 5) r
+
+-- a row that is found open is kept in mind
+abbrev pub opens_if : ℕ → Bool → List ℕ → List ℕ
+opens_if m true before = before ++ m ∷ []
+opens_if m false before = before
+
+abbrev pub asked_in : ℕ → ℕ → KeeperView → KeeperView
+asked_in m state k = record (with_row m (asked state (row_of k m)) k) { opens = opens_if m (eqb (state % 8) 3) k.opens }
 
 abbrev pub handed : ℕ → Row → Row
 handed mark r = record r { issued = r.issued ++ entry_of mark r ∷ []; since = None }
@@ -192,13 +206,13 @@ keeper_after (kinds.Unlock d old new lazy) k n =
     accessing nothing_locked (with_kept d (record { role = new; value = (kept_at k d).value; lazy = lazy; since = length k.events; fixed = None }) (heeding k))
 keeper_after (kinds.Count e) k n = record (heeding k) { events = k.events ++ e.value ∷ [] }
 keeper_after (kinds.Await m) k n = awaited_if m (nat_le 8 n) (heeding k)
-keeper_after (kinds.Ask m) k n = with_row m (asked n (row_of k m)) (heeding k)
+keeper_after (kinds.Ask m) k n = asked_in m n (heeding k)
 keeper_after (kinds.Saw d m) k n = losing m (grant_in (row_of k m)) n (with_kept d (fixed_by n (kept_at k d)) (heeding k))
 keeper_after (kinds.Fill m i x) k n = with_row m (with_field i x (row_of k m)) (heeding k)
 keeper_after (kinds.Hand m mark) k n = with_row m (handed mark (row_of k m)) (heeding k)
 keeper_after (kinds.Open m) k n = with_row m (opened (row_of k m)) (heeding k)
-keeper_after (kinds.RetireSlot d) k n = accessing nothing_locked (with_kept d (record (kept_at k d) { role = NoRole }) (heeding k))
-keeper_after (kinds.Retire d old) k n = accessing nothing_locked (with_kept d (record (kept_at k d) { role = NoRole }) (heeding k))
+keeper_after (kinds.RetireSlot d) k n = accessing nothing_locked (retired d (heeding k))
+keeper_after (kinds.Retire d old) k n = accessing nothing_locked (retired d (heeding k))
 keeper_after (kinds.Generation g) k n = record (heeding k) { generation = g }
 keeper_after (kinds.Recall m i) k n = heeding k
 keeper_after kinds.RecallGeneration k n = heeding k
@@ -226,6 +240,11 @@ KeeperHeard (Some t) k = BeginsWith k.events t.told × BeginsWith (row_of k t.nu
 -- the hart's seat was joined while it wasn't calling, with this view
 abbrev pub HasEnded : KeeperView → ℕ → HartView → Type 0
 HasEnded k m j = ((i : ℕ) × (slice_get k.joined i ≡ Some j)) × (j.number ≡ m) × (j.lane.calling ≡ false)
+
+-- each seat that was joined was that of one of the harts, and no other of its number was
+pub record AreJoinedOnce (k : KeeperView) : Type 0 where
+  pub numbered : (i : ℕ) (j : HartView) → slice_get k.joined i ≡ Some j → j.number < k.harts
+  pub once : (i n : ℕ) (j l : HartView) → slice_get k.joined i ≡ Some j → slice_get k.joined n ≡ Some l → j.number ≡ l.number → i ≡ n
 
 -- it has taken all that was issued to it, and its row has no call; the fates of its grants are those of its exchanges, which found what
 -- was seen of those that it lost; and each of its readings of the generation has the last block before it
@@ -270,7 +289,7 @@ KeeperLearns (kinds.Load d) k n = ((kept_at k d).role ≡ Ro) ⊎ ((kept_at k d)
 KeeperLearns (kinds.Lock d control) k n = (kept_at k d).role ≢ Rw → n ≡ control
 KeeperLearns (kinds.Count e) k n = n ≡ length k.events
 KeeperLearns (kinds.Await m) k n =
-    ((j : HartView) → HasEnded k m j → HasTakenAll k m n j) × ((d : ℕ) → IsSlot (kept_at k) d → IsDecided (kept_at k) (row_of k) d)
+    ((j : HartView) → HasEnded k m j → HasTakenAll k m n j) × ((d : ℕ) → IsSlot (kept_at k) d → IsDecided (kept_at k) (row_of k) d) × AreJoinedOnce k
 KeeperLearns (kinds.Ask m) k n = TellsAsk k m n
 KeeperLearns (kinds.Saw d m) k n = TellsSlot k d n
 KeeperLearns (kinds.Recall m i) k n = n ≡ field_of i (row_of k m)

@@ -19,6 +19,8 @@ first_keeper = record {
   note = None;
   shown = [];
   losses = [];
+  retired = [];
+  opens = [];
 }
 
 -- what that view says of anything
@@ -34,3 +36,4 @@ pub record IsFirst (k : KeeperView) : Type 0 where
   pub no_note : k.note ≡ None
   pub none_shown : k.shown ≡ []
   pub none_lost : k.losses ≡ []
+  pub none_retired : k.retired ≡ []

@@ -2,7 +2,7 @@
 -- and a row that goes between the keeper and its hart.
 use Rattle.std.specs.Prelude.{◌≡◌, [], ◌∷◌, None, Some, Ok, Err, true, false}
 use Rattle.ld_base.specs.declared.fault.Shown.TheVariants.{Locked}
-use Rattle.ld_base.specs.declared.linking.Role.TheVariants.{None as NoRole, Slot as SlotRole}
+use Rattle.ld_base.specs.declared.linking.Role.TheVariants.{None as NoRole, Rx, Slot as SlotRole}
 use Rattle.rv_hart.specs.declared.bus.BusFault.TheVariants.{Again}
 use Rattle.rv_hart.specs.declared.bus.Item.TheVariants as items
 use Rattle.word_rule.specs.declared.entry.Entry.{Entry}
@@ -14,7 +14,7 @@ use Rattle.word_rule.specs.declared.kind.KeeperKind.TheVariants as keeps
 use Rattle.word_rule.specs.declared.view.KeeperView.{KeeperView}
 use Rattle.word_rule.specs.declared.view.Kept.{Kept}
 use Rattle.word_rule.specs.declared.view.TrailItem.TheVariants.{Call, Exchanged}
-use Rattle.word_rule.specs.Views.{first_hart}
+use Rattle.word_rule.specs.Views.{first_hart, kept_at}
 use Rattle.word_rule.specs.Operations.{becomes}
 use Rattle.word_rule.specs.HartSteps.{HartReady, hart_op, hart_after}
 use Rattle.word_rule.specs.KeeperSteps.{fixed_by, keeper_after, keeper_op}
@@ -74,6 +74,14 @@ RoleComesAndGoes =
     × (becomes (keeper_op (keeps.Unlock 0 NoRole SlotRole 5)) 8 ≡ 20)
     × (becomes (keeper_op (keeps.Lock 0 20)) 20 ≡ 28)
     × (becomes (keeper_op (keeps.RetireSlot 0)) 28 ≡ 32)
+
+-- a slot's role is taken away, and then another doubleword's: they stand in this order, each at the keeper's generation
+abbrev pub RolesGoInOrder : Type 0
+RolesGoInOrder = (k : KeeperView) → k.retired ≡ [] → (kept_at k 0).role ≡ SlotRole
+    → ((keeper_after (keeps.RetireSlot 0) k 28).retired ≡ record { at = 0; role = SlotRole; generation = k.generation } ∷ [])
+    × ((l : KeeperView) → l.retired ≡ record { at = 0; role = SlotRole; generation = k.generation } ∷ [] → (kept_at l 1).role ≡ Rx
+    → (keeper_after (keeps.Retire 1 Rx) l 10).retired
+    ≡ record { at = 0; role = SlotRole; generation = k.generation } ∷ record { at = 1; role = Rx; generation = l.generation } ∷ [])
 
 -- a look at a slot whose lazy word is 5 keeps the word found, unless that is 5
 abbrev pub LookKeeps : Type 0

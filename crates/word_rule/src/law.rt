@@ -20,7 +20,7 @@ ghost use Rattle.word_rule.specs.Start.{first_keeper, first_words, IsFirst};
 ghost use Rattle.word_rule.specs.Owners.{LockedStay, OnlyOwnersChange, OnlyRowsOwnersChange, OnlyTallyCounts, SlotsStay, TrailsGrow, UnlocksRaise};
 ghost use Rattle.word_rule.specs.Views.{IsLane, IsLong, entries_of, first_lane};
 ghost use Rattle.word_rule.specs.Worked.{AnotherHasLocked, ConditionalFails, ConditionalIsRefused, LockIsShown, LookKeeps, OneLocks, OneWins};
-ghost use Rattle.word_rule.specs.Worked.{RoleComesAndGoes, RowGoesRound, StoreIsOwed};
+ghost use Rattle.word_rule.specs.Worked.{RoleComesAndGoes, RolesGoInOrder, RowGoesRound, StoreIsOwed};
 
 /// The rule holds at the start, when the keeper knows of no role and of nothing that was handed over.
 pub fn rule_begins()
@@ -112,6 +112,7 @@ pub fn worked_steps()
     ensures store_is_owed { StoreIsOwed }
     ensures one_wins { OneWins }
     ensures roles { RoleComesAndGoes }
+    ensures retired { RolesGoInOrder }
     ensures looks { LookKeeps }
     ensures shown { LockIsShown }
     ensures rows { RowGoesRound }

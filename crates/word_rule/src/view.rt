@@ -167,6 +167,17 @@ pub struct Sight {
     pub second: u64,
 }
 
+/// A doubleword's role that was taken away.
+#[derive(Clone, Copy)]
+pub struct Retired {
+    /// The doubleword's number, which isn't its address.
+    pub at: u64,
+    /// The role that it had.
+    pub role: Role,
+    /// The generation of the TLS modules then.
+    pub generation: u64,
+}
+
 /// What a lost grant's exchange found, as the slot showed it to the keeper.
 #[derive(Clone, Copy)]
 pub struct Loss {
@@ -198,6 +209,10 @@ pub struct KeeperView {
     pub shown: LinkedList<Sight>,
     /// Each time that the slot of a lost grant was looked at, in order.
     pub losses: LinkedList<Loss>,
+    /// Each role that was taken away, in order.
+    pub retired: LinkedList<Retired>,
+    /// Each time that a hart's row was asked and found open, in order: the hart.
+    pub opens: LinkedList<u64>,
 }
 
 /// What a note carries beside a list of events.

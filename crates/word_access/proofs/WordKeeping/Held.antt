@@ -13,11 +13,11 @@ use Rattle.word_rule.specs.Layout.{control_at, doublewords, lock_bit, place_of, 
 use Rattle.word_rule.specs.Views.{IsLong, kept_at, nothing_locked, row_of}
 use Rattle.word_rule.specs.Allowed.{LeadsTo, NothingEnters}
 use Rattle.word_rule.specs.Operations.{add}
-use Rattle.word_rule.specs.KeeperSteps.{KeeperLearns, KeeperReady, Unposted, accessing, heeding, keeper_after, keeper_op, keeper_word, keeps_if, last_if, shown_if, with_kept}
+use Rattle.word_rule.specs.KeeperSteps.{KeeperLearns, KeeperReady, Unposted, accessing, heeding, keeper_after, keeper_op, keeper_word, keeps_if, last_if, retired, shown_if, with_kept}
 use Rattle.word_rule.specs.Lemmas.Heeding.{heeds, kept_else, kept_here}
 use Rattle.word_rule.specs.Lemmas.Unlocking.{role_is}
 use Rattle.word_steps.specs.Views.{IsResting}
-use Rattle.word_access.specs.WordKeeping.Keeping.{control_found, has_locked, retired, retiring, set_as, was_shown}
+use Rattle.word_access.specs.WordKeeping.Keeping.{control_found, has_locked, retiring, set_as, was_shown}
 
 set_twice : {A : Type 0} (l : List A) (i : ℕ) (a b : A) → set (set l i a) i b ≡ set l i b
 set_twice [] i a b = refl
@@ -183,11 +183,11 @@ pub retires : (d n : ℕ) (r : Role) (k k1 k2 : KeeperView) → IsResting k → 
 retires d n r k k1 k2 rest locked is = is ∙ (ap (λ k. keeper_after (retiring d r) k n) locked ∙ go r)
   where
     go : (r : Role) → keeper_after (retiring d r) (has_locked d k) n ≡ retired d k
-    go SlotRole = ap (λ q. with_kept d (record (kept_at k d) { role = NoRole }) q) (rests k rest)
-    go NoRole = ap (λ q. with_kept d (record (kept_at k d) { role = NoRole }) q) (rests k rest)
-    go Ro = ap (λ q. with_kept d (record (kept_at k d) { role = NoRole }) q) (rests k rest)
-    go Rx = ap (λ q. with_kept d (record (kept_at k d) { role = NoRole }) q) (rests k rest)
-    go Rw = ap (λ q. with_kept d (record (kept_at k d) { role = NoRole }) q) (rests k rest)
+    go SlotRole = ap (retired d) (rests k rest)
+    go NoRole = ap (retired d) (rests k rest)
+    go Ro = ap (retired d) (rests k rest)
+    go Rx = ap (retired d) (rests k rest)
+    go Rw = ap (retired d) (rests k rest)
 
 -- what a lock, and a role's end, each come to
 pub ruleset locking = (lock_ready, locks, locks_not, locks_rw, same_role)

@@ -3,11 +3,10 @@ use Rattle.std.specs.Prelude.{ℕ, [], ◌∷◌, ◌++◌, length, None, Some}
 use Rattle.ld_base.specs.declared.fault.Shown.{Shown}
 use Rattle.ld_base.specs.declared.fault.Shown.TheVariants.{Locked}
 use Rattle.ld_base.specs.declared.linking.Role.{Role}
-use Rattle.ld_base.specs.declared.linking.Role.TheVariants.{None as NoRole, Slot as SlotRole}
+use Rattle.ld_base.specs.declared.linking.Role.TheVariants.{Slot as SlotRole}
 use Rattle.word_rule.specs.declared.kind.KeeperKind.{KeeperKind}
 use Rattle.word_rule.specs.declared.kind.KeeperKind.TheVariants as kinds
 use Rattle.word_rule.specs.declared.view.KeeperView.{KeeperView}
-use Rattle.word_rule.specs.Views.{kept_at}
 use Rattle.word_rule.specs.KeeperSteps.{accessing, with_kept}
 
 -- a control word was found that nobody has locked
@@ -27,11 +26,7 @@ was_shown d _ k = k
 abbrev pub set_as : ℕ → ℕ → Role → ℕ → KeeperView → KeeperView
 set_as d x role lazy k = with_kept d (record { role = role; value = x; lazy = lazy; since = length k.events; fixed = None }) k
 
--- the doubleword has no role any more
-abbrev pub retired : ℕ → KeeperView → KeeperView
-retired d k = with_kept d (record (kept_at k d) { role = NoRole }) k
-
--- the kind of step that takes it away
+-- the kind of step that takes a role away
 abbrev pub retiring : ℕ → Role → KeeperKind
 retiring d SlotRole = kinds.RetireSlot d
 retiring d old = kinds.Retire d old

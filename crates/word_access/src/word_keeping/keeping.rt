@@ -3,12 +3,12 @@
 ghost use Rattle.std.specs.Prelude.{◌≡◌, ◌≢◌, ◌⊎◌, ◌%◌, ◌<◌, IfErr, IfOk, Some};
 ghost use Rattle.ld_base.specs.declared.linking.Role.TheVariants.{None as NoRole, Rw, Slot as SlotRole};
 ghost use Rattle.word_rule.specs.Allowed.{LeadsTo, NothingEnters};
-ghost use Rattle.word_rule.specs.KeeperSteps.{Unposted};
+ghost use Rattle.word_rule.specs.KeeperSteps.{Unposted, retired};
 ghost use Rattle.word_rule.specs.Layout.{doublewords, lock_bit, role_code};
 ghost use Rattle.word_rule.specs.Views.{IsLong, kept_at, row_of};
 ghost use Rattle.word_steps.specs.Showing.{IsShown};
 ghost use Rattle.word_steps.specs.Views.{IsResting};
-ghost use Rattle.word_access.specs.WordKeeping.Keeping.{control_found, has_locked, retired, retiring, set_as, was_shown};
+ghost use Rattle.word_access.specs.WordKeeping.Keeping.{control_found, has_locked, retiring, set_as, was_shown};
 
 use ld_base::{Role, Shown};
 use word_rule::KeeperKind;

@@ -24,6 +24,7 @@ first_made k f = record {
   no_modules = f.no_modules;
   none_joined = f.none_joined;
   none_shown = f.none_shown;
+  none_retired = f.none_retired;
 }
   where
     nothing_in : (d : ℕ) → in_linker_page 0 d ≡ false
@@ -63,6 +64,7 @@ page_more k k' i address low is made inside now = subst (λ k. IsMade k (i + 1) 
   no_modules = made.no_modules;
   none_joined = made.none_joined;
   none_shown = made.none_shown;
+  none_retired = made.none_retired;
 })
   where
     x : Kept
@@ -94,6 +96,7 @@ hart_more k k' n made now = subst (λ k. IsMade k 512 (n + 1)) (sym now) (record
   no_modules = made.no_modules;
   none_joined = made.none_joined;
   none_shown = made.none_shown;
+  none_retired = made.none_retired;
 })
 
 pub new_more : (n : ℕ) → new_harts (n + 1) ≡ new_harts n ++ first_hart n ∷ []

@@ -27,6 +27,7 @@ pub record IsMade (k : KeeperView) (page harts : ℕ) : Type 0 where
   pub no_modules : k.generation ≡ 0
   pub none_joined : k.joined ≡ []
   pub none_shown : k.shown ≡ []
+  pub none_retired : k.retired ≡ []
 
 -- the views of harts that have done nothing
 abbrev pub new_harts : ℕ → List HartView

@@ -97,6 +97,8 @@ start = record {
   note = None;
   shown = [];
   losses = [];
+  retired = [];
+  opens = [];
 }
 
 first_is : first_keeper ≡ start
@@ -164,4 +166,5 @@ is_first = subst IsFirst (sym first_is) (record {
   no_note = refl;
   none_shown = refl;
   none_lost = refl;
+  none_retired = refl;
 })

@@ -240,8 +240,10 @@ keeper_grows (kinds.Store d x) k n long ready = plain k (keeper_after (kinds.Sto
 keeper_grows (kinds.Unlock d old new lazy) k n long ready = plain k (keeper_after (kinds.Unlock d old new lazy) k n) refl refl refl (length-set k.words d _) refl refl (omega arith)
 keeper_grows (kinds.Count e) k n long ready = record { harts = refl; joined = refl; note = refl; words = refl; rows = refl; events = begins_push k.events e.value; generation = omega arith; on = λ m. goes_itself (row_of k m) }
 keeper_grows (kinds.Await m) k n long ready = awaited_grows m (nat_le 8 n) k (subst (λ x. m < x) (sym long) ready)
-keeper_grows (kinds.Ask m) k n long ready = row_grows k k.rows m (asked n (row_of k m)) (subst (λ x. m < x) (sym long) ready.0) refl (λ j. goes_itself (row_of k j))
-    (asked_on (eqb (n % 8) 3) (eqb (n % 8) 4) (eqb (n % 8) 5) (row_of k m))
+keeper_grows (kinds.Ask m) k n long ready =
+    let g = row_grows k k.rows m (asked n (row_of k m)) (subst (λ x. m < x) (sym long) ready.0) refl (λ j. goes_itself (row_of k j))
+    (asked_on (eqb (n % 8) 3) (eqb (n % 8) 4) (eqb (n % 8) 5) (row_of k m)) in
+    record { harts = g.harts; joined = g.joined; note = g.note; words = g.words; rows = g.rows; events = g.events; generation = g.generation; on = g.on }
 keeper_grows (kinds.Saw d m) k n long ready = plain k (keeper_after (kinds.Saw d m) k n) refl refl refl (length-set k.words d _) refl refl (omega arith)
 keeper_grows (kinds.Fill m i x) k n long ready = row_grows k k.rows m (with_field i x (row_of k m)) (subst (λ x. m < x) (sym long) ready.1.0) refl (λ j. goes_itself (row_of k j))
     (filled_on ready.0 i x (row_of k m) ready.1.1)

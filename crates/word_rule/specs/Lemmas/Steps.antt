@@ -22,7 +22,7 @@ use Rattle.word_rule.specs.Layout.{doublewords, harts_at_most, table_words, valu
 use Rattle.word_rule.specs.Views.{BeginsWith, after, put, entries_of, exchanges_of, kept_at, known_of, row_of}
 use Rattle.word_rule.specs.Operations.{becomes}
 use Rattle.word_rule.specs.HartSteps.{Awaits, HartReady, HartLearns, hart_word, hart_op, hart_after, ask_place, Asked, glanced, looked, locked_if, heeded, permits, ask_is_fresh, store_place}
-use Rattle.word_rule.specs.KeeperSteps.{HasEnded, HasTakenAll, KeeperReady, KeeperLearns, keeper_word, keeper_op, keeper_after}
+use Rattle.word_rule.specs.KeeperSteps.{AreJoinedOnce, HasEnded, HasTakenAll, KeeperReady, KeeperLearns, keeper_word, keeper_op, keeper_after}
 use Rattle.word_rule.specs.Seats.{Fits, Seats}
 use Rattle.word_rule.specs.Words.{Words}
 use Rattle.word_rule.specs.Calls.{Calls, Rests, RowIs, Stage, Still}
@@ -276,20 +276,21 @@ module _ (word : ℕ → ℕ) (k : KeeperView) (harts : ℕ → HartView) (p : P
   awaited : (n : ℕ) → Awaits n → n % 8 ≢ 3
   awaited n waits e = elim waits [ inl a ↦ omega arith | inr a ↦ elim a [ inl b ↦ omega arith | inr b ↦ omega arith ] ]
 
-  pub keeper_tells : ((i : ℕ) (j : HartView) → slice_get k.joined i ≡ Some j → harts j.number ≡ j) → Rattle.word_rule.specs.KeeperSteps.KeeperHeard k.note k → (kind : KeeperKind) → KeeperReady kind k → KeeperLearns kind k (word (keeper_word kind))
-  keeper_tells gone told (keeps.Look d) ready = look_tells word k (after (λ (x : HartView). x.access) harts) p.locks words_known d ready
-  keeper_tells gone told (keeps.Load d) ready = load_tells word k (after (λ (x : HartView). x.access) harts) p.locks words_known d ready
-  keeper_tells gone told (keeps.Lock d control) ready = lock_tells word k (after (λ (x : HartView). x.access) harts) p.locks words_known d control ready
-  keeper_tells gone told (keeps.Count e) ready = p.calls.counted
-  keeper_tells gone told (keeps.Await m) ready = (taken_all m ready gone, decides word k (after (λ (x : HartView). x.lane.tried) harts) (after (λ (x : HartView). exchanges_of x.trail) harts) p.slots words_known rows_known)
-  keeper_tells gone told (keeps.Ask m) ready = ask_tells word k (after (λ (x : HartView). x.lane.tried) harts) (after (λ (x : HartView). exchanges_of x.trail) harts) p.slots words_known rows_known m
+  pub keeper_tells : ((i : ℕ) (j : HartView) → slice_get k.joined i ≡ Some j → harts j.number ≡ j) → AreJoinedOnce k → Rattle.word_rule.specs.KeeperSteps.KeeperHeard k.note k
+      → (kind : KeeperKind) → KeeperReady kind k → KeeperLearns kind k (word (keeper_word kind))
+  keeper_tells gone once told (keeps.Look d) ready = look_tells word k (after (λ (x : HartView). x.access) harts) p.locks words_known d ready
+  keeper_tells gone once told (keeps.Load d) ready = load_tells word k (after (λ (x : HartView). x.access) harts) p.locks words_known d ready
+  keeper_tells gone once told (keeps.Lock d control) ready = lock_tells word k (after (λ (x : HartView). x.access) harts) p.locks words_known d control ready
+  keeper_tells gone once told (keeps.Count e) ready = p.calls.counted
+  keeper_tells gone once told (keeps.Await m) ready = (taken_all m ready gone, decides word k (after (λ (x : HartView). x.lane.tried) harts) (after (λ (x : HartView). exchanges_of x.trail) harts) p.slots words_known rows_known, once)
+  keeper_tells gone once told (keeps.Ask m) ready = ask_tells word k (after (λ (x : HartView). x.lane.tried) harts) (after (λ (x : HartView). exchanges_of x.trail) harts) p.slots words_known rows_known m
       (λ c since. awaited (word (state_at m)) ((p.calls.each_row m ready.0).known c since).awaits) (λ j e. closed (word (state_at m)) (ended m ready.0 gone j e).1) ready
-  keeper_tells gone told (keeps.Saw d m) ready = saw_tells word k (after (λ (x : HartView). x.lane.tried) harts) (after (λ (x : HartView). exchanges_of x.trail) harts) p.slots words_known rows_known d m ready
-  keeper_tells gone told (keeps.Recall m i) ready = (p.calls.each_row m ready).fields i
-  keeper_tells gone told keeps.RecallGeneration ready = p.generations.current
-  keeper_tells gone told (keeps.RecallRole d) ready = (p.locks.each_word d ready).role
-  keeper_tells gone told keeps.Listen ready = told
-  keeper_tells gone told _ ready = tt
+  keeper_tells gone once told (keeps.Saw d m) ready = saw_tells word k (after (λ (x : HartView). x.lane.tried) harts) (after (λ (x : HartView). exchanges_of x.trail) harts) p.slots words_known rows_known d m ready
+  keeper_tells gone once told (keeps.Recall m i) ready = (p.calls.each_row m ready).fields i
+  keeper_tells gone once told keeps.RecallGeneration ready = p.generations.current
+  keeper_tells gone once told (keeps.RecallRole d) ready = (p.locks.each_word d ready).role
+  keeper_tells gone once told keeps.Listen ready = told
+  keeper_tells gone once told _ ready = tt
 
 -- ---- the rule
 
@@ -337,7 +338,8 @@ keeper_keeps kind seat k ready words views g at small = (
     parts = subst (λ (f : ℕ → ℕ). Parts f k' g.hart) (set_put words (keeper_word kind) x 0 (subst (λ m. keeper_word kind < m) (sym g.wide) (keeper_low (slice_index words) k g.hart parts seats.words_known seats.rows_known kind ready)))
         (keeper_parts (slice_index words) k g.hart parts seats.words_known seats.rows_known kind ready small);
   },
-  keeper_tells (slice_index words) k g.hart parts seats.words_known seats.rows_known (λ i j e. (seats.gone i j e).2) seats.told kind ready,
+  keeper_tells (slice_index words) k g.hart parts seats.words_known seats.rows_known (λ i j e. (seats.gone i j e).2)
+      (record { numbered = λ i j e. (seats.gone i j e).0; once = seats.once }) seats.told kind ready,
 )
   where
     n : ℕ

@@ -1,4 +1,4 @@
-use Rattle.word_rule.proofs.Worked.{another_has_locked, conditional_fails, conditional_is_refused, lock_is_shown, look_keeps, one_locks, one_wins, role_comes_and_goes, row_goes_round, store_is_owed}
+use Rattle.word_rule.proofs.Worked.{another_has_locked, conditional_fails, conditional_is_refused, lock_is_shown, look_keeps, one_locks, one_wins, role_comes_and_goes, roles_go_in_order, row_goes_round, store_is_owed}
 use Rattle.word_rule.proofs.law.worked_steps.Goals as goal
 
 pub returns-clause-one_locks : goal.returns-clause-one_locks
@@ -18,6 +18,9 @@ returns-clause-one_wins c = one_wins
 
 pub returns-clause-roles : goal.returns-clause-roles
 returns-clause-roles c = role_comes_and_goes
+
+pub returns-clause-retired : goal.returns-clause-retired
+returns-clause-retired c = roles_go_in_order
 
 pub returns-clause-store_is_owed : goal.returns-clause-store_is_owed
 returns-clause-store_is_owed c = store_is_owed
