@@ -46,6 +46,7 @@ use Rattle.kept_words.specs.Keeping.{AskedKept}
 use Rattle.kept_words.specs.Kept.{AreKept, HasSeen, HaveFates, IsFateEvent, LostHaveSeen, ShowsLoss}
 use Rattle.kept_words.specs.Settling.{LostMayLose, WonMayBind}
 use Rattle.kept_words.specs.Staying.{IsGrantEvent, SameGrants, Settles, fated_in, number_in}
+use Rattle.kept_words.proofs.Gone.{gone_beside}
 use Rattle.kept_words.proofs.Handed.{counted_stays, issued_stays}
 use Rattle.kept_words.proofs.Keeping.{alike_kept, begun_short, counted_number, inside, later_event, later_number, own_push_none, row_field, some_in}
 use Rattle.kept_words.proofs.Settled.{settled_stays}
@@ -321,6 +322,7 @@ module _ (w : Setting) (begun : List Event) (k : KeeperView) (kept : AreKept w b
     issued = λ m x few there. issued_stays w k.events (e ∷ []) m x (kept.issued m x few (subst (λ (es : List Entry). Contains es x) (fated_issued k h g fate kept.long low pending m) there));
     handed = counted_stays begun (fated_in fate h k) e (begun_short w begun k kept) event.nobodys
         (λ m few. ap event_numbers (fated_issued k h g fate kept.long low pending m) ∙ kept.handed m few);
+    gone = gone_beside k.events e k.retired kept.gone;
   }
 
 -- ---- what an ask answered
@@ -337,6 +339,7 @@ asked_kept won lost w begun k h state g asked.Open accepts kept low pending tell
       pending = row_field (λ (y : Row). y.pending) k h (record (row_of k h) { found_open = true }) (inside k h kept.long low) refl;
       settled = row_field (λ (y : Row). y.settled) k h (record (row_of k h) { found_open = true }) (inside k h kept.long low) refl;
       losses = refl;
+      retired = refl;
     }) kept
 asked_kept won lost w begun k h state g asked.Won accepts kept low pending tells says saw =
     settled_kept w begun k kept h g FateWon Bound (events.Bound (number_in k.events h g)) low pending (tells.of_slot g pending) Settles.as_bound

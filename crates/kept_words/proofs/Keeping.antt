@@ -41,10 +41,12 @@ use Rattle.history_calls.specs.Laws.{hart_of}
 use Rattle.hart_trails.specs.Owners.{AreOfHarts}
 use Rattle.hart_trails.specs.Trails.{is_granting}
 use Rattle.word_holds.specs.Shared.{IsOfState}
+use Rattle.kept_words.specs.Gone.{HaveGone}
 use Rattle.kept_words.specs.Handed.{IsIssued, event_numbers, own_numbers}
 use Rattle.kept_words.specs.Keeping.{AlikeKept, AnsweredKept, AwaitedIsAlike, IsAlike, QuietKept}
 use Rattle.kept_words.specs.Kept.{AreKept, AreRows, HaveFates, IsFateEvent, LostHaveSeen, ShowsLoss}
 use Rattle.kept_words.specs.Staying.{IsGrantEvent, SameGrants, leaves_memory, number_by, number_in}
+use Rattle.kept_words.proofs.Gone.{gone_beside}
 use Rattle.kept_words.proofs.Handed.{answered_stays, handed_stays, issued_stays}
 use Rattle.kept_words.proofs.Seen.{seen_on}
 use Rattle.kept_words.proofs.Staying.{events_stay, stands_back, states_stay}
@@ -222,6 +224,7 @@ alike_kept w begun k l is kept = record {
   issued = λ h e low there. subst (λ (es : List Event). IsIssued w es h e) (sym is.events) (kept.issued h e low (subst (λ (es : List Entry). Contains es e) (is.issued h) there));
   handed = λ h low. ap event_numbers (is.issued h) ∙ kept.handed h low
       ∙ ap (λ (es : List Event). own_numbers h (length begun + 1) (drop (length begun) es)) (sym is.events);
+  gone = subst (λ (es : List Event). HaveGone es l.retired) (sym is.events) (subst (HaveGone k.events) (sym is.retired) kept.gone);
 }
 
 pub awaited_is_alike : AwaitedIsAlike
@@ -235,6 +238,7 @@ awaited_is_alike k h long low = record {
   pending = λ m. row_field (λ (y : Row). y.pending) quiet h since_row low_row (ap (λ (y : Row). y.pending) (map_row k.rows h)) m ∙ ap (λ (y : Row). y.pending) (sym (map_row k.rows m));
   settled = λ m. row_field (λ (y : Row). y.settled) quiet h since_row low_row (ap (λ (y : Row). y.settled) (map_row k.rows h)) m ∙ ap (λ (y : Row). y.settled) (sym (map_row k.rows m));
   losses = refl;
+  retired = refl;
 }
   where
     quiet : KeeperView
@@ -359,6 +363,7 @@ quiet_kept w begun k h e entry kept own_low own leaves may is = record {
       (IsIssued.of_event k.events [] e refl own (no_grant e leaves) (sym new.1 ∙ is)))
       (handed_issued (counted e k) h entry kept.long low m x there);
   handed = handed_stays begun k h e entry kept.long low (begun_short w begun k kept) own (ap (λ (x : Entry). x.mark) is) (ap (λ (x : Entry). x.number) is) kept.handed;
+  gone = gone_beside k.events e k.retired kept.gone;
 }
   where
     low : h < harts_at_most
@@ -389,6 +394,7 @@ answered_kept w begun k h entry kept own_low marks is = record {
       (λ (new : (m ≡ h) × (entry ≡ x)). subst (λ (i : ℕ). IsIssued w k.events i x) (sym new.0) (subst (IsIssued w k.events h) new.1 is))
       (handed_issued k h entry kept.long low m x there);
   handed = answered_stays begun k h entry kept.long low marks kept.handed;
+  gone = kept.gone;
 }
   where
     low : h < harts_at_most

@@ -1,4 +1,5 @@
 mod Asking
+pub mod Gone
 mod Handed
 mod Keeping
 mod Over

@@ -32,6 +32,7 @@ use Rattle.kept_words.specs.Kept.{AreKept, AreRows, LostHaveSeen}
 use Rattle.kept_words.specs.Posted.{Posts}
 use Rattle.kept_words.specs.Posting.{NewGrant, event_of, granting_of}
 use Rattle.kept_words.specs.Staying.{IsGrantEvent, number_in}
+use Rattle.kept_words.proofs.Gone.{gone_beside}
 use Rattle.kept_words.proofs.Handed.{issued_stays, posted_handed_stays}
 use Rattle.kept_words.proofs.Keeping.{begun_short, inside, later_event, own_push, row_field, rows_on, settles_none, was_lost}
 use Rattle.kept_words.proofs.Posted.{posted_stays}
@@ -160,4 +161,5 @@ module _ (w : Setting) (begun : List Event) (k : KeeperView) (g : NewGrant) (x :
         (subst (IsIssued w (k.events ++ event_of g ∷ []) g.hart) new.1 (IsIssued.of_grant k.events [] g.number g.owner g.slot g.value g.choice refl entry)))
         (was_issued (counted e k) g.hart x kept.long low m y there);
     handed = posted_handed_stays begun k g.hart e x kept.long low (begun_short w begun k kept) refl entry.mark entry.number_is kept.handed;
+    gone = gone_beside k.events (event_of g) k.retired kept.gone;
   }

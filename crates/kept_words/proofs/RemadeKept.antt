@@ -46,6 +46,7 @@ use Rattle.history_memory.specs.Lemmas.Images.{ImagesBack}
 use Rattle.hart_trails.specs.Entries.{entry_behind}
 use Rattle.hart_trails.specs.Trails.{is_granting}
 use Rattle.word_holds.specs.Shared.{IsOfState}
+use Rattle.kept_words.specs.Gone.{HaveGone}
 use Rattle.kept_words.specs.Handed.{IsIssued}
 use Rattle.kept_words.specs.Keeping.{IsRemadeView, remakes_memory}
 use Rattle.kept_words.specs.Kept.{AreKept, AreRows, LostHaveSeen}
@@ -217,7 +218,7 @@ module _ (w : Setting) (begun : List Event) (k l : KeeperView) (kept : AreKept w
 
   -- as if the journal were the old one
   abbrev mid : KeeperView
-  mid = record k { words = l.words; shown = l.shown; generation = (step (after k.events) e).generation }
+  mid = record k { words = l.words; shown = l.shown; retired = l.retired; generation = (step (after k.events) e).generation }
 
   same : SameGrants mid (handed_over h entry (counted e mid))
   same = record { words = λ d. refl; pending = handed_pending (counted e mid) h entry long low; settled = handed_settled (counted e mid) h entry long low }
@@ -327,6 +328,7 @@ module _ (w : Setting) (begun : List Event) (k l : KeeperView) (kept : AreKept w
         (IsIssued.of_event k.events [] e refl own is.granting (sym new.1 ∙ entry_is)))
         (handed_issued (counted e mid) h entry (view.long.0, kept.long.1) low m x there);
     handed = handed_stays begun mid h e entry (view.long.0, kept.long.1) low (begun_short w begun k kept) own (ap (λ (x : Entry). x.mark) entry_is) (ap (λ (x : Entry). x.number) entry_is) kept.handed;
+    gone = subst (HaveGone (k.events ++ e ∷ [])) (sym view.goes.are) (HaveGone.by_event k.events e k.retired view.goes.more kept.gone view.goes.in_order);
   }
 
   pub remade_kept : AreKept w begun (handed_over h entry (counted e l))

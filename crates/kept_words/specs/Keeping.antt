@@ -18,7 +18,7 @@ use Rattle.slot_bind.specs.Rows.{handed_over}
 use Rattle.history_state.specs.Accepted.{AcceptsOnly}
 use Rattle.history_state.specs.After.{after}
 use Rattle.history_state.specs.Allowed.{Allowed}
-use Rattle.history_state.specs.Changes.{StandsApart}
+use Rattle.history_state.specs.Changes.{StandsApart, taken}
 use Rattle.history_state.specs.Legal.{Lawful}
 use Rattle.history_state.specs.Setting.{Setting}
 use Rattle.history_state.specs.State.{State}
@@ -26,6 +26,7 @@ use Rattle.history_state.specs.Step.{step}
 use Rattle.history_calls.specs.Laws.{hart_of}
 use Rattle.hart_trails.specs.Entries.{entry_behind}
 use Rattle.word_holds.specs.Shared.{IsOfState}
+use Rattle.kept_words.specs.Gone.{Goes}
 use Rattle.kept_words.specs.Handed.{IsIssued}
 use Rattle.kept_words.specs.Kept.{AreKept}
 use Rattle.kept_words.specs.Remade.{IsRemade}
@@ -42,6 +43,7 @@ pub record IsAlike (k l : KeeperView) : Type 0 where
   pub pending : (m : ℕ) → (row_of l m).pending ≡ (row_of k m).pending
   pub settled : (m : ℕ) → (row_of l m).settled ≡ (row_of k m).settled
   pub losses : l.losses ≡ k.losses
+  pub retired : l.retired ≡ k.retired
 
 abbrev pub AlikeKept : Type 0
 AlikeKept = (w : Setting) (begun : List Event) (k l : KeeperView) → IsAlike k l → AreKept w begun k → AreKept w begun l
@@ -72,25 +74,25 @@ remakes_memory e = elim e [
   | _ ↦ false
 ]
 
--- the view once memory is remade by the event: but for that, only the generation changed, and what was shown of locked words
+-- the view once memory is remade by the event: but for that, only the generation changed, what was shown of locked words, and which roles went
 pub record IsRemadeView (s : State) (e : Event) (k l : KeeperView) : Type 0 where
   pub remade : IsRemade s e (length k.events) k l
   pub long : IsLong l
-  pub only : l ≡ record k { words = l.words; shown = l.shown; generation = (step s e).generation }
+  pub goes : Goes (taken s e) (step s e).generation k l
+  pub only : l ≡ record k { words = l.words; shown = l.shown; retired = l.retired; generation = (step s e).generation }
 
 -- a hart's event that may come remade memory; it is counted, and the hart gets its entry
 abbrev pub RemadeKept : Type 0
 RemadeKept = (w : Setting) (begun : List Event) (k l : KeeperView) (h : ℕ) (e : Event) (entry : Entry)
     → AcceptsOnly w.machine → AreKept w begun k → h < w.machine.harts
-    → hart_of e ≡ Some h → remakes_memory e ≡ true → Allowed w k.events e → IsRemadeView (after k.events) e k l → entry ≡ entry_behind k.events e
-    → AreKept w begun (handed_over h entry (counted e l))
+    → hart_of e ≡ Some h → remakes_memory e ≡ true → Allowed w k.events e → IsRemadeView (after k.events) e k l
+    → entry ≡ entry_behind k.events e → AreKept w begun (handed_over h entry (counted e l))
 
 -- the slot of a grant whose fate isn't known isn't among what comes and goes
 abbrev pub PendingStay : Type 0
 PendingStay = (w : Setting) (past : List Event) (e : Event) (k : KeeperView) (number : ℕ → Grant → ℕ) (m : ℕ) (g : Grant)
-    → AcceptsOnly w.machine → Lawful w.machine past
-    → Allowed w past e → IsOfState (after past) k number → m < harts_at_most → (row_of k m).pending ≡ Some g → IsOf (kept_at k) (place_of g.entry.slot) g
-    → StandsApart (after past) e g.entry.slot
+    → AcceptsOnly w.machine → Lawful w.machine past → Allowed w past e → IsOfState (after past) k number → m < harts_at_most
+    → (row_of k m).pending ≡ Some g → IsOf (kept_at k) (place_of g.entry.slot) g → StandsApart (after past) e g.entry.slot
 
 -- ---- a grant is asked for, and settled where it is known what came of it
 

@@ -22,6 +22,7 @@ use Rattle.history_memory.specs.Holds.{IsSlotAt}
 use Rattle.history_memory.specs.Memory.{IsDoubleword}
 use Rattle.hart_trails.specs.Owners.{AreOfHarts}
 use Rattle.word_holds.specs.Shared.{IsOfState}
+use Rattle.kept_words.specs.Gone.{HaveGone}
 use Rattle.kept_words.specs.Handed.{AreHanded, AreIssued}
 use Rattle.kept_words.specs.Staying.{HaveEvents, IsGrantEvent, number_in}
 
@@ -93,6 +94,8 @@ pub record AreKept (w : Setting) (begun : List Event) (k : KeeperView) : Type 0 
   pub granted : HaveEvents k.events k
   pub rows : AreRows k
   pub seen : LostHaveSeen (after k.events) k
+  -- the roles that went are those that the journal took away, in order
+  pub gone : HaveGone k.events k.retired
   -- each entry that a hart was handed is true of the journal, and they are its events since the seats were made
   pub issued : AreIssued w k
   pub handed : AreHanded begun k

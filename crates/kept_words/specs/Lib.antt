@@ -1,3 +1,4 @@
+pub mod Gone
 pub mod Handed
 pub mod Keeping
 pub mod Kept

@@ -46,6 +46,7 @@ use Rattle.history_memory.specs.Lemmas.Exchanged.{fits}
 use Rattle.history_memory.specs.Lemmas.Slots.{lazy_is, slot_there, stands}
 use Rattle.kept_words.specs.Keeping.{IsRemadeView}
 use Rattle.kept_words.specs.Remade.{IsGiven, IsRemade}
+use Rattle.kept_words.proofs.Gone.{goes_none}
 use Rattle.kept_words.proofs.Remade.{InOne, in_one}
 use Rattle.kept_words.proofs.Settling.{StateLaws}
 use Rattle.word_installs.specs.Installed.{AreOnce, HasWord, IsInstalled, IsWordAt, LeadsInto, MayInstall, MayPut, OfInstalls, is_plain, put_as}
@@ -426,7 +427,9 @@ pub installed_view : (s : State) (e : Event) (k l : KeeperView) (installs : Inst
 installed_view s e k l installs remade installed long generation = record {
   remade = remade;
   long = long;
+  goes = goes_none (taken s e) (step s e).generation k l (ap (λ (v : KeeperView). v.retired) installed.only);
   only = ap (λ (v : KeeperView). record v { generation = l.generation }) installed.only
       ∙ ap (λ sights. record k { words = l.words; shown = sights; generation = l.generation }) (sym (ap (λ (v : KeeperView). v.shown) installed.only))
-      ∙ ap (λ (g : ℕ). record k { words = l.words; shown = l.shown; generation = g }) generation;
+      ∙ ap (λ gone. record k { words = l.words; shown = l.shown; retired = gone; generation = l.generation }) (sym (ap (λ (v : KeeperView). v.retired) installed.only))
+      ∙ ap (λ (g : ℕ). record k { words = l.words; shown = l.shown; retired = l.retired; generation = g }) generation;
 }

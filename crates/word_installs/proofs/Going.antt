@@ -35,7 +35,8 @@ use Rattle.kept_words.specs.Keeping.{IsRemadeView}
 use Rattle.kept_words.specs.Remade.{IsRemade}
 use Rattle.kept_words.proofs.Settling.{place_back, slot_word}
 use Rattle.word_installs.specs.Remaking.{PendingAreThere}
-use Rattle.word_installs.specs.Unmapped.{IsCovered, IsOutside, IsUnmapped, MayUnmap}
+use Rattle.kept_words.specs.Gone.{Goes, IsCovered, IsOutside}
+use Rattle.word_installs.specs.Unmapped.{IsUnmapped, MayUnmap}
 use Rattle.word_installs.proofs.Coming.{KnowsNew}
 use Rattle.word_installs.proofs.Leading.{Leads, first_leads, granted_leads}
 use Rattle.word_installs.proofs.Places.{place_one, place_whole}
@@ -180,5 +181,6 @@ pub unmapped_view : (s : State) (e : Event) (k l : KeeperView) → reserved s e 
 unmapped_view s e k l none unmapped long generation = record {
   remade = unmapped_remade s e k l (length k.events) none unmapped;
   long = long;
-  only = unmapped.only ∙ ap (λ (g : ℕ). record k { words = l.words; shown = l.shown; generation = g }) generation;
+  goes = subst (λ (g : ℕ). Goes (taken s e) g k l) generation unmapped.goes;
+  only = unmapped.only ∙ ap (λ (g : ℕ). record k { words = l.words; shown = l.shown; retired = l.retired; generation = g }) generation;
 }

@@ -1,37 +1,45 @@
 -- Words that are taken away: one more leaves what may be, and what is gone.
-use Rattle.std.proofs.Common.{◌≡◌, ◌≢◌, ⊎_elim, inl, inr, ℕ, ◌+◌, ◌-◌, ◌*◌, ◌/◌, ◌%◌, ◌^◌, ◌<◌, ◌≤◌, true, leb, ltb, get_or, List, [], ◌∷◌, length, Some, refl, sym, ap, subst, ◌∙◌, arith, lt_of_not-le}
+use Rattle.std.proofs.Common.{◌≡◌, ◌≢◌, ⊎_elim, append-nil, append_assoc, inl, inr, ℕ, ◌+◌, ◌-◌, ◌*◌, ◌/◌, ◌%◌, ◌^◌, ◌<◌, ◌≤◌, Result, Ok, Err, IfOk, IfErr, true, leb, ltb, get_or, List, [], ◌∷◌, ◌++◌, length, Some, refl, sym, ap, subst, ◌∙◌, arith, lt_of_not-le}
 use mathlib.Core.Logic.{dite}
 use native.Mathlib.Decide.{ℕ_discrete, dec_le}
 use Rattle.std.specs.List.{Contains, slice_get}
 use Rattle.std.proofs.lemmas.Option.{slice_get_within}
 use Rattle.std.proofs.lemmas.Bool.{and_from, and_parts, le-leb, leb-true, lt-ltb, ltb-true}
+use Rattle.std.proofs.lemmas.List.Elements.{Contains-append_cases}
 use Rattle.std.proofs.lemmas.List.{get_or-set_other, get_or_past, set_past}
 use Rattle.ld_base.specs.declared.fault.Shown.{Shown}
 use Rattle.ld_base.specs.declared.fault.Shown.TheVariants as shows
+use Rattle.ld_base.specs.declared.linking.Role.{Role}
 use Rattle.ld_base.specs.declared.linking.Role.TheVariants.{None as NoRole, Slot}
 use Rattle.address_space.specs.Pages.{IsGuestRange}
 use Rattle.history_event.specs.declared.event.Range.{Range}
 use Rattle.word_rule.specs.declared.entry.Grant.{Grant}
 use Rattle.word_rule.specs.declared.view.KeeperView.{KeeperView}
 use Rattle.word_rule.specs.declared.view.Kept.{Kept}
+use Rattle.word_rule.specs.declared.view.Retired.{Retired}
 use Rattle.word_rule.specs.Allowed.{IsOf, IsSlot, NothingEnters, Stands}
+use Rattle.word_rule.specs.KeeperSteps.{retired}
 use Rattle.word_rule.specs.Layout.{place_of}
 use Rattle.word_rule.specs.Lemmas.Heeding.{kept_here}
 use Rattle.word_rule.specs.Views.{kept_at, row_of, unmapped}
-use Rattle.word_access.specs.WordKeeping.Keeping.{retired, was_shown}
+use Rattle.word_access.specs.WordKeeping.Keeping.{was_shown}
 use Rattle.word_memory.specs.Roles.{MayRetire}
 use Rattle.history_state.specs.Memory.{covers}
-use Rattle.history_state.specs.Lemmas.Lists.{here, only_in}
+use Rattle.history_state.specs.Lemmas.Lists.{here, none_in, only_in}
 use Rattle.history_state.specs.Lemmas.Tidy.{in_at}
-use Rattle.word_installs.specs.Unmapped.{HasNoRole, HasNoSlot, IsCovered, IsInside, IsUnmapped, MayUnmap, Retires, SlotsGoFirst}
+use Rattle.kept_words.specs.Gone.{IsCovered, IsInside, IsOfOther, IsOfSlot}
+use Rattle.word_installs.specs.Unmapped.{HasNoRole, HasNoSlot, IsUnmapped, MayUnmap, Retires, SlotsGoFirst}
 use Rattle.word_installs.proofs.Places.{word_address}
 
 -- ---- what is retired
 
-pub retires_none : (ranges : List Range) (k : KeeperView) → Retires ranges k k
-retires_none ranges k = record { each = λ d. inl refl; only = refl }
+pub retires_none : (which : Role → Type 0) (ranges : List Range) (k : KeeperView) → Retires which ranges k k
+retires_none which ranges k = record { each = λ d. inl refl; more = []; are = sym (append-nil k.retired); gone = λ x there. absurd (none_in x there); only = refl }
 
-pub retires_then : (ranges : List Range) (k l m : KeeperView) → Retires ranges k l → Retires ranges l m → Retires ranges k m
+pub generation_on : {which : Role → Type 0} (ranges : List Range) (k l : KeeperView) → Retires which ranges k l → l.generation ≡ k.generation
+generation_on ranges k l retires = ap (λ (v : KeeperView). v.generation) retires.only
+
+pub retires_then : {which : Role → Type 0} (ranges : List Range) (k l m : KeeperView) → Retires which ranges k l → Retires which ranges l m → Retires which ranges k m
 retires_then ranges k l m one two = record {
   each = λ d. ⊎_elim
       (λ (same : kept_at m d ≡ kept_at l d). ⊎_elim
@@ -40,31 +48,34 @@ retires_then ranges k l m one two = record {
       (one.each d))
       (λ (gone : IsInside ranges d × ((kept_at m d).role ≡ NoRole)). inr gone)
       (two.each d);
-  only = two.only ∙ ap (λ (v : KeeperView). record v { words = m.words; shown = m.shown }) one.only;
+  more = one.more ++ two.more;
+  are = two.are ∙ ap (λ (all : List Retired). all ++ two.more) one.are ∙ append_assoc k.retired one.more two.more;
+  gone = λ x there. ⊎_elim
+      (λ (in_one : Contains one.more x). one.gone x in_one)
+      (λ (in_two : Contains two.more x). let y = two.gone x in_two in (y.0, y.1, y.2 ∙ generation_on ranges k l one))
+      (Contains-append_cases one.more two.more x there);
+  only = two.only ∙ ap (λ (v : KeeperView). record v { words = m.words; shown = m.shown; retired = m.retired }) one.only;
 }
 
 -- a doubleword without a role stays so
-pub stays_gone : (ranges : List Range) (k l : KeeperView) → Retires ranges k l → (d : ℕ) → (kept_at k d).role ≡ NoRole → (kept_at l d).role ≡ NoRole
+pub stays_gone : {which : Role → Type 0} (ranges : List Range) (k l : KeeperView) → Retires which ranges k l → (d : ℕ) → (kept_at k d).role ≡ NoRole → (kept_at l d).role ≡ NoRole
 stays_gone ranges k l retires d gone = ⊎_elim
     (λ (same : kept_at l d ≡ kept_at k d). ap (λ (x : Kept). x.role) same ∙ gone)
     (λ (new : IsInside ranges d × ((kept_at l d).role ≡ NoRole)). new.1)
     (retires.each d)
 
-pub stays_no_slot : (ranges : List Range) (k l : KeeperView) → Retires ranges k l → (d : ℕ) → (kept_at k d).role ≢ Slot → (kept_at l d).role ≢ Slot
+pub stays_no_slot : {which : Role → Type 0} (ranges : List Range) (k l : KeeperView) → Retires which ranges k l → (d : ℕ) → (kept_at k d).role ≢ Slot → (kept_at l d).role ≢ Slot
 stays_no_slot ranges k l retires d none slot = ⊎_elim
     (λ (same : kept_at l d ≡ kept_at k d). none (ap (λ (x : Kept). x.role) (sym same) ∙ slot))
     (λ (new : IsInside ranges d × ((kept_at l d).role ≡ NoRole)). let both : NoRole ≡ Slot = sym new.1 ∙ slot in cc)
     (retires.each d)
 
-pub slotless_on : (ranges : List Range) (k l : KeeperView) → Retires ranges k l → HasNoSlot ranges k → HasNoSlot ranges l
+pub slotless_on : {which : Role → Type 0} (ranges : List Range) (k l : KeeperView) → Retires which ranges k l → HasNoSlot ranges k → HasNoSlot ranges l
 slotless_on ranges k l retires none a is = stays_no_slot ranges k l retires (place_of a) (none a is)
-
-pub generation_on : (ranges : List Range) (k l : KeeperView) → Retires ranges k l → l.generation ≡ k.generation
-generation_on ranges k l retires = ap (λ (v : KeeperView). v.generation) retires.only
 
 -- ---- what may go still may
 
-pub may_on : (ranges : List Range) (k l : KeeperView) → Retires ranges k l → MayUnmap k ranges → MayUnmap l ranges
+pub may_on : {which : Role → Type 0} (ranges : List Range) (k l : KeeperView) → Retires which ranges k l → MayUnmap k ranges → MayUnmap l ranges
 may_on ranges k l retires may = record {
   guest = may.guest;
   unposted = λ a is m g pending. may.unposted a is m g (ap (λ (v : KeeperView). (row_of v m).pending) (sym retires.only) ∙ pending);
@@ -110,29 +121,50 @@ retired_role k d = go (dec_le (length k.words) d)
 pub gone_now : (k l : KeeperView) (a : ℕ) → l ≡ retired (place_of a) k → (kept_at l (place_of a)).role ≡ NoRole
 gone_now k l a is = ap (λ (v : KeeperView). (kept_at v (place_of a)).role) is ∙ retired_role k (place_of a)
 
-pub retires_one : (ranges : List Range) (k l : KeeperView) (a : ℕ) → IsCovered ranges a → l ≡ retired (place_of a) k → Retires ranges k l
-retires_one ranges k l a covered is = record {
+-- the role that goes
+abbrev role_of : ℕ → KeeperView → Retired
+role_of d k = record { at = d; role = (kept_at k d).role; generation = k.generation }
+
+pub retires_one : (which : Role → Type 0) (ranges : List Range) (k l : KeeperView) (a : ℕ) → IsCovered ranges a → which (kept_at k (place_of a)).role → l ≡ retired (place_of a) k
+    → Retires which ranges k l
+retires_one which ranges k l a covered such is = record {
   each = λ d. dite (ℕ_discrete d (place_of a))
       (λ (same : d ≡ place_of a). inr ((a, covered, sym same), ap (λ (e : ℕ). (kept_at l e).role) same ∙ gone_now k l a is))
       (λ (apart : d ≢ place_of a). inl (ap (λ (v : KeeperView). kept_at v d) is
       ∙ get_or-set_other k.words (place_of a) d (record (kept_at k (place_of a)) { role = NoRole }) unmapped apart));
-  only = is ∙ ap (λ (v : KeeperView). record k { words = v.words; shown = v.shown }) (sym is);
+  more = role_of (place_of a) k ∷ [];
+  are = ap (λ (v : KeeperView). v.retired) is;
+  gone = λ x there. subst (λ (y : Retired). which y.role × IsInside ranges y.at × (y.generation ≡ k.generation)) (only_in (role_of (place_of a) k) x there) (such, (a, covered, refl), refl);
+  only = is ∙ ap (λ (v : KeeperView). record k { words = v.words; shown = v.shown; retired = v.retired }) (sym is);
 }
 
 -- one that was found locked
-pub retires_locked : (ranges : List Range) (k l : KeeperView) (d : ℕ) (shown : Shown) → l ≡ was_shown d shown k → Retires ranges k l
-retires_locked ranges k l d shown is = record {
+pub retires_locked : (which : Role → Type 0) (ranges : List Range) (k l : KeeperView) (d : ℕ) (shown : Shown) → l ≡ was_shown d shown k → Retires which ranges k l
+retires_locked which ranges k l d shown is = record {
   each = λ e. inl (ap (λ (v : KeeperView). kept_at v e) is ∙ same e shown);
-  only = is ∙ shows_only shown ∙ ap (λ (v : KeeperView). record k { words = v.words; shown = v.shown }) (sym is);
+  more = [];
+  are = ap (λ (v : KeeperView). v.retired) is ∙ none_gone shown ∙ sym (append-nil k.retired);
+  gone = λ x there. absurd (none_in x there);
+  only = is ∙ shows_only shown ∙ ap (λ (v : KeeperView). record k { words = v.words; shown = v.shown; retired = v.retired }) (sym is);
 }
   where
     same : (e : ℕ) (x : Shown) → kept_at (was_shown d x k) e ≡ kept_at k e
     same e (shows.Locked a b) = refl
     same e _ = refl
 
-    shows_only : (x : Shown) → was_shown d x k ≡ record k { words = (was_shown d x k).words; shown = (was_shown d x k).shown }
+    none_gone : (x : Shown) → (was_shown d x k).retired ≡ k.retired
+    none_gone (shows.Locked a b) = refl
+    none_gone _ = refl
+
+    shows_only : (x : Shown) → was_shown d x k ≡ record k { words = (was_shown d x k).words; shown = (was_shown d x k).shown; retired = (was_shown d x k).retired }
     shows_only (shows.Locked a b) = refl
     shows_only _ = refl
+
+-- it was taken away, or found locked
+pub retires_by : (which : Role → Type 0) (ranges : List Range) (k l : KeeperView) (a : ℕ) (result : Result Unit Shown) → IsCovered ranges a → which (kept_at k (place_of a)).role
+    → IfOk result (λ _. l ≡ retired (place_of a) k) → IfErr result (λ shown. l ≡ was_shown (place_of a) shown k) → Retires which ranges k l
+retires_by which ranges k l a (Ok x) covered such gone locked = retires_one which ranges k l a covered such gone
+retires_by which ranges k l a (Err shown) covered such gone locked = retires_locked which ranges k l (place_of a) shown locked
 
 -- ---- the doublewords of a range
 
@@ -192,6 +224,21 @@ each_no_slot ranges k l r n may there past gone a is slot =
     let low : nth.0 < 512 * r.pages = nth.1 in
     gone nth.0 (omega (arith, low, past)) (sym (ap (λ (b : ℕ). (kept_at l (place_of b)).role) nth.2) ∙ slot)
 
+-- one index more
+pub gone_more : {which : Role → Type 0} (ranges : List Range) (k l : KeeperView) (start n : ℕ) → Retires which ranges k l
+    → ((i : ℕ) → i < n → (kept_at k (place_of (start + 8 * i))).role ≡ NoRole) → (kept_at l (place_of (start + 8 * n))).role ≡ NoRole
+    → (i : ℕ) → i < n + 1 → (kept_at l (place_of (start + 8 * i))).role ≡ NoRole
+gone_more ranges k l start n retires front new i low = dite (ℕ_discrete i n)
+    (λ (same : i ≡ n). ap (λ (j : ℕ). (kept_at l (place_of (start + 8 * j))).role) same ∙ new)
+    (λ (apart : i ≢ n). stays_gone ranges k l retires (place_of (start + 8 * i)) (front i (omega (arith, low, apart))))
+
+pub no_slot_more : {which : Role → Type 0} (ranges : List Range) (k l : KeeperView) (start n : ℕ) → Retires which ranges k l
+    → ((i : ℕ) → i < n → (kept_at k (place_of (start + 8 * i))).role ≢ Slot) → (kept_at l (place_of (start + 8 * n))).role ≢ Slot
+    → (i : ℕ) → i < n + 1 → (kept_at l (place_of (start + 8 * i))).role ≢ Slot
+no_slot_more ranges k l start n retires front new i low = dite (ℕ_discrete i n)
+    (λ (same : i ≡ n). subst (λ (j : ℕ). (kept_at l (place_of (start + 8 * j))).role ≢ Slot) (sym same) new)
+    (λ (apart : i ≢ n). stays_no_slot ranges k l retires (place_of (start + 8 * i)) (front i (omega (arith, low, apart))))
+
 -- ---- one range after another
 
 -- a range more
@@ -217,10 +264,10 @@ all_gone ranges n l past front a is = let at = one_of ranges a is in let low : a
 pub all_no_slot : (ranges : List Range) (n : ℕ) (l : KeeperView) → length ranges ≤ n → ((i : ℕ) (r : Range) → i < n → slice_get ranges i ≡ Some r → HasNoSlot (r ∷ []) l) → HasNoSlot ranges l
 all_no_slot ranges n l past front a is = let at = one_of ranges a is in let low : at.0 < length ranges = at.2 in front at.0 at.1 (omega (arith, low, past)) at.3 a at.4
 
-pub no_role_on : (ranges : List Range) (k l : KeeperView) → Retires ranges k l → (r : Range) → HasNoRole (r ∷ []) k → HasNoRole (r ∷ []) l
+pub no_role_on : {which : Role → Type 0} (ranges : List Range) (k l : KeeperView) → Retires which ranges k l → (r : Range) → HasNoRole (r ∷ []) k → HasNoRole (r ∷ []) l
 no_role_on ranges k l retires r gone a is = stays_gone ranges k l retires (place_of a) (gone a is)
 
-pub no_slot_on : (ranges : List Range) (k l : KeeperView) → Retires ranges k l → (r : Range) → HasNoSlot (r ∷ []) k → HasNoSlot (r ∷ []) l
+pub no_slot_on : {which : Role → Type 0} (ranges : List Range) (k l : KeeperView) → Retires which ranges k l → (r : Range) → HasNoSlot (r ∷ []) k → HasNoSlot (r ∷ []) l
 no_slot_on ranges k l retires r gone a is = stays_no_slot ranges k l retires (place_of a) (gone a is)
 
 -- ---- all of it
@@ -228,15 +275,31 @@ no_slot_on ranges k l retires r gone a is = stays_no_slot ranges k l retires (pl
 pub may_later : (ranges : List Range) (k l : KeeperView) (generation : ℕ) → l ≡ record k { generation = generation } → MayUnmap k ranges → MayUnmap l ranges
 may_later ranges k l generation is may = subst (λ (v : KeeperView). MayUnmap v ranges) (sym is) (record { guest = may.guest; unposted = may.unposted; unentered = may.unentered })
 
-pub is_unmapped : (ranges : List Range) (k l m n : KeeperView) (generation : ℕ) → l ≡ record k { generation = generation } → Retires ranges l m → Retires ranges m n → HasNoRole ranges n
-    → IsUnmapped ranges k n
+-- of which kind the roles were is left out
+of_any : {which : Role → Type 0} (ranges : List Range) (k l : KeeperView) → Retires which ranges k l → Retires (λ _. Unit {0}) ranges k l
+of_any ranges k l retires = record { each = retires.each; more = retires.more; are = retires.are; gone = λ x there. (tt, (retires.gone x there).1, (retires.gone x there).2); only = retires.only }
+
+pub is_unmapped : (ranges : List Range) (k l m n : KeeperView) (generation : ℕ) → l ≡ record k { generation = generation } → Retires IsOfSlot ranges l m → Retires IsOfOther ranges m n
+    → HasNoRole ranges n → IsUnmapped ranges k n
 is_unmapped ranges k l m n generation is one two gone = record {
   gone = gone;
   kept = λ d outside. ⊎_elim (λ (same : kept_at n d ≡ kept_at l d). same ∙ ap (λ (v : KeeperView). kept_at v d) is) (λ x. absurd (outside x.0)) (both.each d);
-  only = both.only ∙ ap (λ (v : KeeperView). record v { words = n.words; shown = n.shown }) is
-      ∙ ap (λ (x : ℕ). record k { words = n.words; shown = n.shown; generation = x })
+  goes = record {
+    more = one.more ++ two.more;
+    are = two.are ∙ ap (λ (all : List Retired). all ++ two.more) one.are ∙ append_assoc l.retired one.more two.more
+        ∙ ap (λ (v : KeeperView). v.retired ++ (one.more ++ two.more)) is;
+    in_order = record {
+      slots = one.more;
+      others = two.more;
+      are = refl;
+      first = λ x there. let y = one.gone x there in (y.0, y.1, y.2 ∙ sym (generation_on ranges l n both));
+      next = λ x there. let y = two.gone x there in (y.0, y.1, y.2 ∙ sym (generation_on ranges m n two));
+    };
+  };
+  only = both.only ∙ ap (λ (v : KeeperView). record v { words = n.words; shown = n.shown; retired = n.retired }) is
+      ∙ ap (λ (x : ℕ). record k { words = n.words; shown = n.shown; retired = n.retired; generation = x })
       (sym (ap (λ (v : KeeperView). v.generation) both.only ∙ ap (λ (v : KeeperView). v.generation) is));
 }
   where
-    both : Retires ranges l n
-    both = retires_then ranges l m n one two
+    both : Retires (λ _. Unit {0}) ranges l n
+    both = retires_then ranges l m n (of_any ranges l m one) (of_any ranges m n two)

@@ -42,11 +42,13 @@ use Rattle.history_state.specs.Lemmas.Lists.{first_or_later, here, later, none_i
 use Rattle.history_memory.specs.Memory.{IsDoubleword}
 use Rattle.hart_trails.specs.Owners.{AreOfHarts}
 use Rattle.word_holds.specs.Shared.{IsOfState}
+use Rattle.kept_words.specs.Gone.{HaveGone}
 use Rattle.kept_words.specs.Handed.{event_numbers, own_numbers}
 use Rattle.kept_words.specs.Keeping.{remakes_memory}
 use Rattle.kept_words.specs.Kept.{AreKept, IsFateEvent}
 use Rattle.kept_words.specs.Remade.{IsRemade}
 use Rattle.kept_words.specs.Staying.{leaves_memory, number_in}
+use Rattle.kept_words.proofs.Gone.{gone_behind}
 use Rattle.kept_words.proofs.Remade.{InOne, in_one}
 use Rattle.kept_words.proofs.Settling.{place_back, slot_word}
 use Rattle.word_installs.specs.Installed.{IsInstalled}
@@ -357,4 +359,5 @@ module _ (w : Setting) (begun : List Event) (installs : Installs) (start : IsSta
       seen = λ x saw i there lost inside serial. absurd (none_in x (subst (λ (all : List Granting). Contains all x) (ap (λ (es : List Event). (after es).grants) events_is ∙ no_grants) there));
       issued = λ h e low there. absurd (none_in e (subst (λ (r : Row). Contains r.issued e) (rows_are h) there));
       handed = handed;
+      gone = subst (HaveGone l.events) (sym (ap (λ (v : KeeperView). v.retired) installed.only ∙ fresh.none_retired)) (gone_behind [] l.events [] HaveGone.nothing);
     }

@@ -40,6 +40,7 @@ pub record IsFresh (w : Setting) (begun : List Event) (k : KeeperView) : Type 0 
   pub rows : (m : ℕ) → row_of k m ≡ no_row
   pub harts : k.harts ≡ w.machine.harts
   pub events : k.events ≡ begun
+  pub none_retired : k.retired ≡ []
 
 -- its objects may be installed
 abbrev pub StartupMayCome : Type 0

@@ -1,29 +1,16 @@
 -- Words that are taken away: when they may be, in which order, and what the keeper knows then.
-use Rattle.std.specs.Prelude.{◌≡◌, ◌≢◌, ◌⊎◌, ℕ, ◌<◌, true, List, Contains}
+use Rattle.std.specs.Prelude.{◌≡◌, ◌≢◌, ◌⊎◌, ℕ, ◌<◌, List, ◌++◌, Contains}
 use Rattle.address_space.specs.Pages.{IsGuestRange}
+use Rattle.ld_base.specs.declared.linking.Role.{Role}
 use Rattle.ld_base.specs.declared.linking.Role.TheVariants.{None as NoRole, Slot}
 use Rattle.history_event.specs.declared.event.Range.{Range}
 use Rattle.word_rule.specs.declared.view.KeeperView.{KeeperView}
+use Rattle.word_rule.specs.declared.view.Retired.{Retired}
 use Rattle.word_rule.specs.Allowed.{IsAllowed, IsSlot}
 use Rattle.word_rule.specs.KeeperSteps.{Unposted}
 use Rattle.word_rule.specs.Layout.{place_of}
 use Rattle.word_rule.specs.Views.{kept_at, row_of}
-use Rattle.history_state.specs.Memory.{covers}
-use Rattle.history_memory.specs.Memory.{IsDoubleword}
-
--- the address of a doubleword of guest memory that one of these ranges has
-pub record IsCovered (ranges : List Range) (a : ℕ) : Type 0 where
-  pub word : IsDoubleword a
-  pub range : Range
-  pub there : Contains ranges range
-  pub covers_it : covers a range ≡ true
-
--- a doubleword is inside one of them, or outside all of them
-abbrev pub IsInside : List Range → ℕ → Type 0
-IsInside ranges d = (a : ℕ) × IsCovered ranges a × (place_of a ≡ d)
-
-abbrev pub IsOutside : List Range → ℕ → Type 0
-IsOutside ranges d = ¬ (IsInside ranges d)
+use Rattle.kept_words.specs.Gone.{AreGone, Goes, IsCovered, IsInside, IsOutside}
 
 -- no slot is left in them
 abbrev pub HasNoSlot : List Range → KeeperView → Type 0
@@ -44,13 +31,18 @@ pub record MayUnmap (k : KeeperView) (ranges : List Range) : Type 0 where
 abbrev pub SlotsGoFirst : List Range → KeeperView → ℕ → Type 0
 SlotsGoFirst ranges k a = ((kept_at k (place_of a)).role ≡ Slot) ⊎ HasNoSlot ranges k
 
--- each doubleword is as it was, or it is one of these ranges and has no role any more; nothing else changed but what was shown of locked words
-pub record Retires (ranges : List Range) (k l : KeeperView) : Type 0 where
+-- each doubleword is as it was, or it is one of these ranges and has no role any more; such roles went, at this generation. Nothing else changed but
+-- what was shown of locked words
+pub record Retires (which : Role → Type 0) (ranges : List Range) (k l : KeeperView) : Type 0 where
   pub each : (d : ℕ) → (kept_at l d ≡ kept_at k d) ⊎ (IsInside ranges d × ((kept_at l d).role ≡ NoRole))
-  pub only : l ≡ record k { words = l.words; shown = l.shown }
+  pub more : List Retired
+  pub are : l.retired ≡ k.retired ++ more
+  pub gone : AreGone which ranges k.generation more
+  pub only : l ≡ record k { words = l.words; shown = l.shown; retired = l.retired }
 
--- no doubleword of these ranges has a role any more, and all others are as they were
+-- no doubleword of these ranges has a role any more, and all others are as they were. Roles went in order, at the generation that is set then
 pub record IsUnmapped (ranges : List Range) (k l : KeeperView) : Type 0 where
   pub gone : HasNoRole ranges l
   pub kept : (d : ℕ) → IsOutside ranges d → kept_at l d ≡ kept_at k d
-  pub only : l ≡ record k { words = l.words; shown = l.shown; generation = l.generation }
+  pub goes : Goes ranges l.generation k l
+  pub only : l ≡ record k { words = l.words; shown = l.shown; retired = l.retired; generation = l.generation }

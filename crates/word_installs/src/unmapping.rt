@@ -2,10 +2,12 @@
 
 ghost use Rattle.std.specs.Prelude.{◌≡◌, ◌≢◌, ◌≤◌, [], ◌∷◌, Contains, IfErr, IfOk};
 ghost use Rattle.ld_base.specs.declared.linking.Role.TheVariants.{None as NoRole, Rw, Slot as SlotRole};
+ghost use Rattle.word_rule.specs.KeeperSteps.{retired};
 ghost use Rattle.word_rule.specs.Layout.{place_of};
 ghost use Rattle.word_rule.specs.Views.{kept_at};
-ghost use Rattle.word_access.specs.WordKeeping.Keeping.{retired, was_shown};
-ghost use Rattle.word_installs.specs.Unmapped.{HasNoRole, HasNoSlot, IsCovered, IsUnmapped, MayUnmap, Retires, SlotsGoFirst};
+ghost use Rattle.word_access.specs.WordKeeping.Keeping.{was_shown};
+ghost use Rattle.kept_words.specs.Gone.{IsCovered, IsOfOther, IsOfSlot};
+ghost use Rattle.word_installs.specs.Unmapped.{HasNoRole, HasNoSlot, IsUnmapped, MayUnmap, Retires, SlotsGoFirst};
 
 use history_event::Range;
 use ld_base::Shown;
@@ -32,8 +34,8 @@ pub fn unmap<R: Wait, J: Naming>(
     ensures generation { keeper.new.generation ≡ generation }
 {
     raise_generation(memory, keeper, generation);
-    retire_slots(memory, keeper, ranges, generation);
-    retire_others(rt, memory, keeper, ranges, generation);
+    retire_slots(memory, keeper, ranges);
+    retire_others(rt, memory, keeper, ranges);
 }
 
 /// Sets the generation, where it rose.
@@ -50,20 +52,14 @@ pub(crate) fn raise_generation<J: Naming>(
     }
 }
 
-/// Takes the slots of these ranges away, once the generation is set.
-fn retire_slots<J: Naming>(
-    memory: &Memory<J>,
-    keeper: &mut KeeperSeat<J>,
-    ranges: &[Range],
-    generation: u64,
-)
+/// Takes the slots of these ranges away.
+fn retire_slots<J: Naming>(memory: &Memory<J>, keeper: &mut KeeperSeat<J>, ranges: &[Range])
     requires may { MayUnmap keeper.old ranges.now }
-    requires set { keeper.old.generation ≡ generation }
     ensures gone { HasNoSlot ranges.now keeper.new }
-    ensures retires { Retires ranges.now keeper.old keeper.new }
+    ensures retires { Retires IsOfSlot ranges.now keeper.old keeper.new }
 {
     for range in ranges {
-        retire_slots_in(memory, keeper, ranges, *range, generation);
+        retire_slots_in(memory, keeper, ranges, *range);
     }
 }
 
@@ -73,17 +69,15 @@ fn retire_slots_in<J: Naming>(
     keeper: &mut KeeperSeat<J>,
     ranges: &[Range],
     range: Range,
-    generation: u64,
 )
     requires may { MayUnmap keeper.old ranges.now }
-    requires set { keeper.old.generation ≡ generation }
     requires there { Contains ranges.now range }
     ensures gone { HasNoSlot (range ∷ []) keeper.new }
-    ensures retires { Retires ranges.now keeper.old keeper.new }
+    ensures retires { Retires IsOfSlot ranges.now keeper.old keeper.new }
 {
     for index in 0..PAGE_WORDS * range.pages {
         let address = range.address + 8 * index;
-        retire_slot(memory, keeper, ranges, address, generation);
+        retire_slot(memory, keeper, ranges, address);
     }
 }
 
@@ -93,16 +87,14 @@ fn retire_slot<J: Naming>(
     keeper: &mut KeeperSeat<J>,
     ranges: &[Range],
     address: u64,
-    generation: u64,
 )
     requires may { MayUnmap keeper.old ranges.now }
-    requires set { keeper.old.generation ≡ generation }
     requires covered { IsCovered ranges.now address }
     ensures gone { (kept_at keeper.new (place_of address)).role ≢ SlotRole }
-    ensures retires { Retires ranges.now keeper.old keeper.new }
+    ensures retires { Retires IsOfSlot ranges.now keeper.old keeper.new }
 {
     if is_slot(memory, keeper, address) {
-        let _ = retire_in(memory, keeper, ranges, address, generation);
+        let _ = retire_in(memory, keeper, ranges, address);
     }
 }
 
@@ -112,16 +104,14 @@ fn retire_others<R: Wait, J: Naming>(
     memory: &Memory<J>,
     keeper: &mut KeeperSeat<J>,
     ranges: &[Range],
-    generation: u64,
 )
     requires may { MayUnmap keeper.old ranges.now }
-    requires set { keeper.old.generation ≡ generation }
     requires slotless { HasNoSlot ranges.now keeper.old }
     ensures gone { HasNoRole ranges.now keeper.new }
-    ensures retires { Retires ranges.now keeper.old keeper.new }
+    ensures retires { Retires IsOfOther ranges.now keeper.old keeper.new }
 {
     for range in ranges {
-        retire_others_in(rt, memory, keeper, ranges, *range, generation);
+        retire_others_in(rt, memory, keeper, ranges, *range);
     }
 }
 
@@ -132,18 +122,16 @@ fn retire_others_in<R: Wait, J: Naming>(
     keeper: &mut KeeperSeat<J>,
     ranges: &[Range],
     range: Range,
-    generation: u64,
 )
     requires may { MayUnmap keeper.old ranges.now }
-    requires set { keeper.old.generation ≡ generation }
     requires slotless { HasNoSlot ranges.now keeper.old }
     requires there { Contains ranges.now range }
     ensures gone { HasNoRole (range ∷ []) keeper.new }
-    ensures retires { Retires ranges.now keeper.old keeper.new }
+    ensures retires { Retires IsOfOther ranges.now keeper.old keeper.new }
 {
     for index in 0..PAGE_WORDS * range.pages {
         let address = range.address + 8 * index;
-        retire_other(rt, memory, keeper, ranges, address, generation);
+        retire_other(rt, memory, keeper, ranges, address);
     }
 }
 
@@ -154,25 +142,22 @@ fn retire_other<R: Wait, J: Naming>(
     keeper: &mut KeeperSeat<J>,
     ranges: &[Range],
     address: u64,
-    generation: u64,
 )
     requires may { MayUnmap keeper.old ranges.now }
-    requires set { keeper.old.generation ≡ generation }
     requires slotless { HasNoSlot ranges.now keeper.old }
     requires covered { IsCovered ranges.now address }
     ensures gone { (kept_at keeper.new (place_of address)).role ≡ NoRole }
-    ensures retires { Retires ranges.now keeper.old keeper.new }
+    ensures retires { Retires IsOfOther ranges.now keeper.old keeper.new }
 {
     for _ in rt.forever() {
-        if retire_in(memory, keeper, ranges, address, generation).is_ok() {
+        if retire_in(memory, keeper, ranges, address).is_ok() {
             return;
         }
     }
     unreachable!()
 }
 
-/// Takes a doubleword's role away: a slot's, or another's once no slot of the ranges is left; and not before
-/// the generation is set.
+/// Takes a doubleword's role away: a slot's, or another's once no slot of the ranges is left.
 ///
 /// # Errors
 ///
@@ -182,10 +167,8 @@ fn retire_in<J: Naming>(
     keeper: &mut KeeperSeat<J>,
     _ranges: &[Range],
     address: u64,
-    _generation: u64,
 ) -> Result<(), Shown>
     requires may { MayUnmap keeper.old _ranges.now }
-    requires set { keeper.old.generation ≡ _generation }
     requires covered { IsCovered _ranges.now address }
     requires order { SlotsGoFirst _ranges.now keeper.old address }
     ensures gone { IfOk result (λ _. keeper.new ≡ retired (place_of address) keeper.old) }

@@ -3,14 +3,11 @@ use Rattle.std.proofs.lemmas.Option.{slice_get-get_or}
 use Rattle.history_event.specs.declared.event.Range.{Range}
 use Rattle.history_state.specs.Lemmas.Lists.{at_in}
 use Rattle.word_installs.specs.Unmapped.{HasNoRole}
-use Rattle.word_installs.proofs.Retiring.{all_gone, generation_on, may_on, no_role_on, ranges_more, retires_then}
+use Rattle.word_installs.proofs.Retiring.{all_gone, may_on, no_role_on, ranges_more, retires_then}
 use Rattle.word_installs.proofs.unmapping.retire_others.Goals as goal
 
 pub retire_others_in-requires-clause-may : goal.retire_others_in-requires-clause-may
 retire_others_in-requires-clause-may g c = may_on c.args.ranges.now c.args.keeper.now c.loop-range.keeper c.loop-range.invariant.0 c.requires.may
-
-pub retire_others_in-requires-clause-set : goal.retire_others_in-requires-clause-set
-retire_others_in-requires-clause-set g c = generation_on c.args.ranges.now c.args.keeper.now c.loop-range.keeper c.loop-range.invariant.0 ∙ c.requires.set
 
 pub retire_others_in-requires-clause-there : goal.retire_others_in-requires-clause-there
 retire_others_in-requires-clause-there g c =

@@ -2,10 +2,11 @@ use Rattle.std.proofs.Common.{◌≡◌, ℕ, ◌+◌, ◌*◌, ◌<◌}
 use Rattle.ld_base.specs.declared.linking.Role.TheVariants.{None as NoRole}
 use Rattle.word_rule.specs.Layout.{place_of}
 use Rattle.word_rule.specs.Views.{kept_at}
+use Rattle.kept_words.specs.Gone.{IsOfOther}
 use Rattle.word_installs.specs.Unmapped.{Retires}
 use Rattle.word_installs.proofs.unmapping.retire_others_in.Given as goal
 
 -- those in front are gone
 abbrev pub invariant-loop-index : goal.invariant-loop-index
 invariant-loop-index g l =
-    Retires l.ranges l.fn.keeper l.keeper × ((i : ℕ) → i < l.index → (kept_at l.keeper (place_of (l.range.address + 8 * i))).role ≡ NoRole)
+    Retires IsOfOther l.ranges l.fn.keeper l.keeper × ((i : ℕ) → i < l.index → (kept_at l.keeper (place_of (l.range.address + 8 * i))).role ≡ NoRole)

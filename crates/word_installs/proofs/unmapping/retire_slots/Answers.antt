@@ -3,14 +3,11 @@ use Rattle.std.proofs.lemmas.Option.{slice_get-get_or}
 use Rattle.history_event.specs.declared.event.Range.{Range}
 use Rattle.history_state.specs.Lemmas.Lists.{at_in}
 use Rattle.word_installs.specs.Unmapped.{HasNoSlot}
-use Rattle.word_installs.proofs.Retiring.{all_no_slot, generation_on, may_on, no_slot_on, ranges_more, retires_then}
+use Rattle.word_installs.proofs.Retiring.{all_no_slot, may_on, no_slot_on, ranges_more, retires_then}
 use Rattle.word_installs.proofs.unmapping.retire_slots.Goals as goal
 
 pub retire_slots_in-requires-clause-may : goal.retire_slots_in-requires-clause-may
 retire_slots_in-requires-clause-may g c = may_on c.args.ranges.now c.args.keeper.now c.loop-range.keeper c.loop-range.invariant.0 c.requires.may
-
-pub retire_slots_in-requires-clause-set : goal.retire_slots_in-requires-clause-set
-retire_slots_in-requires-clause-set g c = generation_on c.args.ranges.now c.args.keeper.now c.loop-range.keeper c.loop-range.invariant.0 ∙ c.requires.set
 
 pub retire_slots_in-requires-clause-there : goal.retire_slots_in-requires-clause-there
 retire_slots_in-requires-clause-there g c =

@@ -1,8 +1,10 @@
 use Rattle.word_installs.proofs.Retiring.{is_unmapped, may_later, may_on}
 use Rattle.word_installs.proofs.unmapping.unmap.Goals as goal
 
-pub retire_slots-requires-clause-may : goal.retire_slots-requires-clause-may
-retire_slots-requires-clause-may g c = may_later c.args.ranges.now c.args.keeper.now c.raise_generation.new.keeper c.args.generation c.raise_generation.ensures c.requires.may
+pub retire_slots-requires : goal.retire_slots-requires
+retire_slots-requires g c = record {
+  may = may_later c.args.ranges.now c.args.keeper.now c.raise_generation.new.keeper c.args.generation c.raise_generation.ensures c.requires.may;
+}
 
 pub retire_others-requires-clause-may : goal.retire_others-requires-clause-may
 retire_others-requires-clause-may g c =
