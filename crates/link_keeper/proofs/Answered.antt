@@ -1,5 +1,5 @@
 -- An answer that is no event is passed to its hart, and what it keeps of an answer.
-use Rattle.std.proofs.Common.{◌≡◌, ◌⊎◌, ⊎_elim, inl, ℕ, zero, suc, ◌<◌, ◌≤◌, ◌==◌, ◌&&◌, Bool, true, false, if◌then◌else◌, get_or, List, [], ◌∷◌, ◌++◌, length, Option, None, Some, refl, sym, ap, subst, ◌∙◌, append-nil, arith, lt_of_not-le}
+use Rattle.std.proofs.Common.{◌≡◌, ◌⊎◌, ⊎_elim, ℕ, zero, suc, ◌<◌, ◌≤◌, ◌==◌, ◌&&◌, Bool, true, false, if◌then◌else◌, get_or, List, [], ◌∷◌, ◌++◌, length, Option, None, Some, refl, sym, ap, subst, ◌∙◌, append-nil, arith, lt_of_not-le}
 use mathlib.Core.Logic.{dite}
 use native.Mathlib.Decide.{dec_le}
 use Rattle.std.proofs.Math.Bool.{and-true}
@@ -11,7 +11,6 @@ use Rattle.word_rule.specs.declared.view.Row.{Row}
 use Rattle.word_rule.specs.declared.view.TrailItem.TheVariants.{Took}
 use Rattle.word_rule.specs.KeeperSteps.{handed}
 use Rattle.word_rule.specs.Layout.{harts_at_most}
-use Rattle.word_rule.specs.Lemmas.Heeding.{row_else}
 use Rattle.word_rule.specs.Views.{known_of, no_row, row_of}
 use Rattle.slot_bind.specs.Rows.{handed_over, row_with}
 use Rattle.history_event.specs.declared.event.Event.{Event}
@@ -75,8 +74,8 @@ module _ (w : Setting) (begun : List Event) (k : KeeperView) (h : HartView) (id 
         known = ap (λ (y : HartView). known_of y.lane) takes ∙ append-nil (h.lane.taken ++ entry ∷ []);
         low = λ event. absurd (let bad : false ≡ true = sym no_event_mark ∙ event in cc);
         plain = λ e there. absurd (none_in e there);
-        others = λ m apart. inl (ap (λ (y : KeeperView). row_of y m) hands
-            ∙ row_else k id (handed entry.mark (row_with entry (row_of k id))) (inside k id hand.view.kept.long few) m (λ same. apart (same ∙ hand.number)));
+        opens = ap (λ (y : KeeperView). y.opens) hands;
+        pending = λ m apart. ap (λ (y : KeeperView). (row_of y m).pending) hands ∙ pending m;
       }
 
 -- ---- what the hart keeps

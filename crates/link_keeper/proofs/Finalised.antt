@@ -41,7 +41,7 @@ use Rattle.link_state.specs.Table.{LinkTable}
 use Rattle.link_keeper.specs.Acting.{Acts, Answers, OpenNothing}
 use Rattle.link_keeper.specs.Attending.{NobodysCame}
 use Rattle.link_keeper.specs.Entering.{AreQuiet}
-use Rattle.link_keeper.specs.Finalising.{HasEvents, IsPlannedOr, MayFinalise}
+use Rattle.link_keeper.specs.Finalising.{IsPlannedOr, MayFinalise, PlansEvents}
 use Rattle.link_keeper.specs.declared.acting.Reply.{Reply}
 use Rattle.link_keeper.specs.declared.acting.Reply.TheVariants as reply
 use Rattle.link_keeper.proofs.Acted.{IsFree}
@@ -233,7 +233,7 @@ module _ (w : Setting) (past : List Event) (h : ℕ) (b c : HartState) (plan : F
   pub carried_rests : settled_resolving c.resolving ≡ Resolving.idle
   carried_rests = finalised_rests w past h b c plan.code plan.object (did_by (plan_events h plan)) carried rests
 
-  module _ (state : LinkTable) (are : state.events ≡ past ++ plan_events h plan) (some : HasEvents plan) where
+  module _ (state : LinkTable) (are : state.events ≡ past ++ plan_events h plan) (some : PlansEvents plan) where
     pub carried_opens : OpenNothing (drop (length past) state.events)
     carried_opens = subst OpenNothing (sym (ap (drop (length past)) are ∙ drop-append_seam past (plan_events h plan))) (finis_open_none h plan.finalised)
 

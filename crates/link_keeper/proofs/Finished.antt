@@ -14,7 +14,7 @@ use Rattle.word_rule.specs.declared.view.Fate.TheVariants.{Lost as FateLost, Won
 use Rattle.word_rule.specs.declared.view.HartView.{HartView}
 use Rattle.word_rule.specs.declared.view.KeeperView.{KeeperView}
 use Rattle.word_rule.specs.declared.view.Row.{Row}
-use Rattle.word_rule.specs.KeeperSteps.{HasEnded, HasTakenAll, TellsAsk, awaited_if, settled_as}
+use Rattle.word_rule.specs.KeeperSteps.{AreJoinedOnce, HasEnded, HasTakenAll, TellsAsk, awaited_if, settled_as}
 use Rattle.word_rule.specs.Layout.{harts_at_most}
 use Rattle.word_rule.specs.Lemmas.Heeding.{row_here}
 use Rattle.word_rule.specs.Views.{BeginsWith, IsLong, exchanges_of, row_of}
@@ -77,6 +77,7 @@ joined_view alike w begun k seats view = record {
       pending = λ m. refl;
       settled = λ m. refl;
       losses = refl;
+      retired = refl;
     }
 
 pub joins_none : (k : KeeperView) → k ≡ joins [] k
@@ -96,11 +97,6 @@ joined_state alike w begun state k l seats keeps is = record {
 }
 
 -- ---- the last grants are settled
-
-pub joined_stays : (number : ℕ) (answer : Asked) (id : ℕ) (k : KeeperView) → (settled_view number answer (asked_view id answer k)).joined ≡ k.joined
-joined_stays number asked.Open id k = refl
-joined_stays number asked.Won id k = refl
-joined_stays number (asked.Lost saw) id k = refl
 
 module _ (k l : KeeperView) (long : IsLong k) (id : ℕ) (low : id < harts_at_most) (g : Grant) (waits : (row_of k id).pending ≡ Some g) (number found : ℕ) (tells : TellsAsk k id found)
     (ended : HasEndedThere k id) where
@@ -124,10 +120,10 @@ none_there w begun state k keeps id low none = by (row_of k id).pending refl
     by (Some g) is = absurd (none_pending w begun state k keeps id low (subst (λ (es : List Event). HasNoGrant (after es) id) (sym keeps.same) none) g is)
 
 pub ends_nothing : (k : KeeperView) → SettlesEnded 0 k k
-ends_nothing k = record { settled = settles_nothing k; none = λ m low. absurd (omega (arith, low)); rest = λ m high. refl; joined = refl }
+ends_nothing k = record { settled = settles_nothing k; none = λ m low. absurd (omega (arith, low)); rest = λ m high. refl }
 
-pub ends_more : (n : ℕ) (k l m : KeeperView) → SettlesEnded n k l → SettlesOne n l m → (row_of m n).pending ≡ None → m.joined ≡ l.joined → SettlesEnded (n + 1) k m
-ends_more n k l m all one none joined = record {
+pub ends_more : (n : ℕ) (k l m : KeeperView) → SettlesEnded n k l → SettlesOne n l m → (row_of m n).pending ≡ None → SettlesEnded (n + 1) k m
+ends_more n k l m all one none = record {
   settled = settles_more n k l m all.settled one;
   none = λ j low. dite (ℕ_discrete j n)
       (λ (same : j ≡ n). ap (λ (i : ℕ). (row_of m i).pending) same ∙ none)
@@ -135,13 +131,12 @@ ends_more n k l m all one none joined = record {
   rest = λ j high. dite (ℕ_discrete j n)
       (λ (same : j ≡ n). absurd (let more : n + 1 ≤ j = high in omega (arith, more, same)))
       (λ (apart : j ≢ n). one.others j apart ∙ all.rest j (let more : n + 1 ≤ j = high in omega (arith, more)));
-  joined = joined ∙ all.joined;
 }
 
 pub ended_still : (n : ℕ) (k l : KeeperView) → SettlesEnded n k l → HasEndedThere k n → HasEndedThere l n
 ended_still n k l all ended g waits =
     let j = ended g (sym (ap (λ (r : Row). r.pending) (all.rest n (omega arith))) ∙ waits) in
-    (j.0, ((j.1.0.0, ap (λ (js : List HartView). slice_get js j.1.0.0) all.joined ∙ j.1.0.1), j.1.1, j.1.2))
+    (j.0, ((j.1.0.0, ap (λ (js : List HartView). slice_get js j.1.0.0) all.settled.joined ∙ j.1.0.1), j.1.1, j.1.2))
 
 -- ---- what was taken
 
@@ -205,7 +200,25 @@ module _ (over_is : OverIsWhole) (are_true : TrailsAreTrue) (are_exchanges : Fat
       (knows k.events seat.0, ended_at k1 refl m seat.0 seat.1)
 
   pub are_there : (l : KeeperView) → SettlesEnded 16 k1 l → (m : ℕ) → m < w.machine.harts → (j : HartView) × HasEnded l m j
-  are_there l settled m low = let seat = some_seat m low in (knows k.events seat.0, ended_at l settled.joined m seat.0 seat.1)
+  are_there l settled m low = let seat = some_seat m low in (knows k.events seat.0, ended_at l settled.settled.joined m seat.0 seat.1)
+
+  -- no seat was joined before
+  pub alone : (l : KeeperView) → l.joined ≡ k1.joined → AreJoinedOnce l → l.harts ≡ w.machine.harts → k.joined ≡ []
+  alone l same once harts = by k.joined refl
+    where
+      joined_are : l.joined ≡ k.joined ++ map (knows k.events) seats
+      joined_are = same ∙ ap (λ (x : KeeperView). x.joined) joined
+
+      by : (front : List HartView) → k.joined ≡ front → front ≡ []
+      by [] is = refl
+      by (x ∷ rest) is =
+          let first : slice_get l.joined 0 ≡ Some x = ap (λ (js : List HartView). slice_get js 0) (joined_are ∙ ap (λ (js : List HartView). js ++ map (knows k.events) seats) is) in
+          let seat = some_seat x.number (subst (λ (n : ℕ). x.number < n) harts (once.numbered 0 x first)) in
+          let again : slice_get l.joined (length k.joined + x.number) ≡ Some (knows k.events seat.0) =
+          ap (λ (js : List HartView). slice_get js (length k.joined + x.number)) joined_are ∙ seat_joined x.number seat.0 seat.1 in
+          let at : 0 ≡ length k.joined + x.number = once.once 0 (length k.joined + x.number) x (knows k.events seat.0) first again (sym (numbers x.number seat.0 seat.1)) in
+          let some : length k.joined ≡ length (x ∷ rest) = ap length is in
+          absurd (omega (arith, at, some))
 
   module _ (settled : SettlesEnded 16 k1 k2) (view : KeepsView w begun k2) (own : AreOfHarts w k2.events) (taken : HaveTakenAll w.machine.harts k2) (decided : AreDecided k2) where
     events_are : k2.events ≡ k.events ++ settled.settled.more
@@ -218,7 +231,7 @@ module _ (over_is : OverIsWhole) (are_true : TrailsAreTrue) (are_exchanges : Fat
     low_seat h j there = subst (λ (n : ℕ). h < n) all (slice_get_within seats h j there)
 
     took : (h : ℕ) (j : HartView) → slice_get seats h ≡ Some j → (state : ℕ) × HasTakenAll k2 h state (knows k.events j)
-    took h j there = taken h (knows k.events j) (low_seat h j there) (ended_at k2 settled.joined h j there)
+    took h j there = taken h (knows k.events j) (low_seat h j there) (ended_at k2 settled.settled.joined h j there)
 
     closed : (h : ℕ) (j : HartView) → slice_get seats h ≡ Some j → TrailIsClosed w begun k2.events h j
     closed h j there =
@@ -261,6 +274,7 @@ module _ (over_is : OverIsWhole) (are_true : TrailsAreTrue) (are_exchanges : Fat
       more = settled.settled.more;
       are = events_are;
       nobodys = settled.settled.nobodys;
+      in_order = settled.settled.in_order;
       legal = view.kept.legal;
       begins = view.kept.begins;
       own = own;

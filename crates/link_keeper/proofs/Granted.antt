@@ -241,7 +241,8 @@ module _ (may_post : NewMayPost) (posted_kept : PostedKept) (w : Setting) (begun
       known = ap (λ (y : HartView). known_of y.lane) reads;
       low = λ event. (let count : length l.events ≡ length k.events + length (event_of g ∷ []) = ap length events_are ∙ length-append k.events (event_of g ∷ []) in omega (arith, count));
       plain = λ x there. absurd (none_in x there);
-      others = λ m apart. inl (ap (λ (y : KeeperView). row_of y m) posts ∙ row_other m (λ same. apart (same ∙ hand.number)));
+      opens = ap (λ (y : KeeperView). y.opens) posts;
+      pending = λ m apart. ap (λ (y : KeeperView). (row_of y m).pending) posts ∙ ap (λ (r : Row). r.pending) (row_other m (λ same. apart (same ∙ hand.number)));
     }
 
     pub has_grant : HasGrant i o

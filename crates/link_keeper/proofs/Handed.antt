@@ -258,17 +258,14 @@ module _ (stay : EventsStay) (quiet_kept : QuietKept) (remade_kept : RemadeKept)
             ∙ append_assoc h.lane.taken (entry_behind k.events e ∷ []) passed.entries;
         low = λ event. (let count : length k3.events ≡ length k.events + length (e ∷ rest) = ap length events3 ∙ length-append k.events (e ∷ rest) in omega (arith, count));
         plain = passed.plain;
-        others = λ m apart. by rest rest2 m (λ same. apart (same ∙ hand.number));
+        opens = passed.opens ∙ ap (λ (y : KeeperView). y.opens) next.keeper ∙ ap (λ (y : KeeperView). y.opens) x.only;
+        pending = λ m apart. passed.pending m ∙ ap (λ (r : Row). r.pending) (first_else m (λ same. apart (same ∙ hand.number)));
       }
         where
           first_else : (m : ℕ) → m ≢ id → row_of k2 m ≡ row_of k m
           first_else m apart = ap (λ (y : KeeperView). row_of y m) next.keeper
               ∙ row_else (counted e k1) id (handed 1 (row_with (entry_behind k1.events e) (row_of k1 id))) (inside k1 id long1 few2) m apart
               ∙ ap (λ (y : KeeperView). row_of y m) x.only
-
-          by : (more : List Event) → left_of t k2 ≡ more → (m : ℕ) → m ≢ id → (row_of k3 m ≡ row_of k m) ⊎ (1 < length (e ∷ more))
-          by [] none m apart = inl (ap (λ (y : KeeperView). row_of y m) (passed.same none) ∙ first_else m apart)
-          by (d ∷ more) some m apart = inr (omega arith)
 
 -- ---- the calls of the code, by one record
 

@@ -35,3 +35,13 @@ front_at {X} (z ∷ xs) ys (suc n) x e = front_at xs ys n x e
 -- the number of a grant stays while the journal grows
 pub later_number : (journal more : List Event) (m : ℕ) (g : Grant) → IsGrantEvent journal m g → number_in (journal ++ more) m g ≡ number_in journal m g
 later_number journal more m g x = ap number_by (front_at journal more (g.entry.number - 1) _ x.at ∙ sym x.at)
+
+pub later_event : (journal more : List Event) (m : ℕ) (g : Grant) → IsGrantEvent journal m g → IsGrantEvent (journal ++ more) m g
+later_event journal more m g x = record {
+  number = x.number;
+  owner = x.owner;
+  slot = x.slot;
+  choice = x.choice;
+  at = front_at journal more (g.entry.number - 1) _ x.at;
+  some = x.some;
+}

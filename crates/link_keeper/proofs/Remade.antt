@@ -12,6 +12,7 @@ use Rattle.history_event.specs.declared.event.SymAnswer.TheVariants as syms
 use Rattle.seg_image.specs.declared.image.Image.{Image}
 use Rattle.seg_image.specs.declared.image.Word.{Word}
 use Rattle.word_rule.specs.declared.view.KeeperView.{KeeperView}
+use Rattle.word_rule.specs.declared.view.Retired.{Retired}
 use Rattle.word_rule.specs.declared.view.Sight.{Sight}
 use Rattle.word_rule.specs.Views.{IsLong, kept_at, row_of}
 use Rattle.history_calls.specs.Served.{AreImages, InstallsNothing, is_area, slots_of}
@@ -34,6 +35,7 @@ use Rattle.world_memory.specs.declared.turn_answers.answered.MemoryChange.TheVar
 use Rattle.word_installs.specs.Installed.{HasWord, IsInstalled, MayInstall, OfInstalls}
 use Rattle.word_installs.specs.Remaking.{AreInstallsOf, ComesNext, InstalledIsView, InstallsMayCome, RangesMayGo, UnmappedIsView}
 use Rattle.word_installs.specs.Unmapped.{IsUnmapped, MayUnmap}
+use Rattle.kept_words.proofs.Gone.{goes_none, goes_nowhere}
 use Rattle.kept_words.specs.Keeping.{AlikeKept, IsAlike, IsRemadeView, remakes_memory}
 use Rattle.kept_words.specs.Staying.{number_in}
 use Rattle.link_keeper.specs.Keeping.{FirstGoesOn, KeepsView}
@@ -105,34 +107,38 @@ none_reserved s e installs rest are = record {
 
 -- ---- views with the same words
 
--- but for words, what was shown of them and the generation nothing changed
+-- but for words, what was shown of them, roles that went and the generation nothing changed
 abbrev Only : KeeperView → KeeperView → Type 0
-Only k l = l ≡ record k { words = l.words; shown = l.shown; generation = l.generation }
+Only k l = l ≡ record k { words = l.words; shown = l.shown; retired = l.retired; generation = l.generation }
 
 record Leaves (k l : KeeperView) : Type 0 where
   words : (d : ℕ) → kept_at l d ≡ kept_at k d
+  retired : l.retired ≡ k.retired
   only : Only k l
 
 only_raised : (k l : KeeperView) (g : ℕ) → l ≡ record k { generation = g } → Only k l
-only_raised k l g is = subst (λ (v : KeeperView). v ≡ record k { words = v.words; shown = v.shown; generation = v.generation }) (sym is) refl
+only_raised k l g is = subst (λ (v : KeeperView). v ≡ record k { words = v.words; shown = v.shown; retired = v.retired; generation = v.generation }) (sym is) refl
 
 only_installed : (installs : Installs) (k l : KeeperView) → IsInstalled installs k l → Only k l
 only_installed installs k l installed =
     ap (λ (v : KeeperView). record v { generation = l.generation }) installed.only
     ∙ ap (λ (all : List Sight). record k { words = l.words; shown = all; generation = l.generation }) (sym (ap (λ (v : KeeperView). v.shown) installed.only))
+    ∙ ap (λ (all : List Retired). record k { words = l.words; shown = l.shown; retired = all; generation = l.generation }) (sym (ap (λ (v : KeeperView). v.retired) installed.only))
 
 leaves_raised : (k l : KeeperView) (g : ℕ) → l ≡ record k { generation = g } → Leaves k l
-leaves_raised k l g is = record { words = λ d. ap (λ (v : KeeperView). kept_at v d) is; only = only_raised k l g is }
+leaves_raised k l g is = record { words = λ d. ap (λ (v : KeeperView). kept_at v d) is; retired = ap (λ (v : KeeperView). v.retired) is; only = only_raised k l g is }
 
 leaves_installed : (installs : Installs) (k l : KeeperView) → InstallsNothing installs → IsInstalled installs k l → Leaves k l
 leaves_installed installs k l nothing installed = record {
   words = λ d. installed.kept d (λ a lazy x which. absurd (no_installs installs nothing a lazy x which));
+  retired = ap (λ (v : KeeperView). v.retired) installed.only;
   only = only_installed installs k l installed;
 }
 
 leaves_unmapped : (ranges : List Range) (k l : KeeperView) → ranges ≡ [] → IsUnmapped ranges k l → Leaves k l
 leaves_unmapped ranges k l none unmapped = record {
   words = λ d. unmapped.kept d (λ inside. none_in inside.1.range (subst (λ (rs : List Range). Contains rs inside.1.range) none inside.1.there));
+  retired = goes_nowhere ranges l.generation k l none unmapped.goes;
   only = unmapped.only;
 }
 
@@ -140,6 +146,7 @@ unmapped_none : (ranges : List Range) (k l : KeeperView) → ranges ≡ [] → L
 unmapped_none ranges k l none leaves = record {
   gone = λ a covered. absurd (none_in covered.range (subst (λ (rs : List Range). Contains rs covered.range) none covered.there));
   kept = λ d outside. leaves.words d;
+  goes = goes_none ranges l.generation k l leaves.retired;
   only = leaves.only;
 }
 
@@ -166,6 +173,7 @@ keeps_still alike w begun k l view leaves long generation = record {
       pending = λ m. ap (λ (v : KeeperView). (row_of v m).pending) leaves.only;
       settled = λ m. ap (λ (v : KeeperView). (row_of v m).settled) leaves.only;
       losses = ap (λ (v : KeeperView). v.losses) leaves.only;
+      retired = leaves.retired;
     }
 
 -- ---- a turn's events

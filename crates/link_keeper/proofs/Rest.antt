@@ -262,7 +262,8 @@ module _ (stay : EventsStay) (alike : AlikeKept) (awaits : AwaitedIsAlike) (quie
       number = ap (λ (x : HartView). x.number) takes_is;
       trail = ap (λ (x : HartView). x.trail) takes_is ∙ ap (λ (x : Entry). h.trail ++ Took x ∷ []) is ∙ ap (λ (items : List TrailItem). h.trail ++ items) (sym (took_one k.events e (no_grant e quiet.0)));
       tried = ap (λ (x : HartView). x.lane.tried) takes_is;
-      same = λ none. absurd (let bad : e ∷ [] ≡ [] = none in cc);
+      opens = ap (λ (x : KeeperView). x.opens) hands_is;
+      pending = pending_is;
       entries = entry ∷ [];
       known = ap (λ (x : HartView). known_of x.lane) takes_is ∙ append-nil (h.lane.taken ++ entry ∷ []) ∙ ap (λ (es : List Entry). es ++ entry ∷ []) taken_is;
       plain = λ x there.
@@ -286,15 +287,12 @@ passes_none k h = record {
   number = refl;
   trail = sym (append-nil h.trail);
   tried = refl;
-  same = λ none. refl;
+  opens = refl;
+  pending = λ m. refl;
   entries = [];
   known = sym (append-nil (known_of h.lane));
   plain = λ x there. absurd (none_in x there);
 }
-
-both_none : (one other : List Event) → one ++ other ≡ [] → (one ≡ []) × (other ≡ [])
-both_none [] other none = (refl, none)
-both_none (e ∷ one) other none = absurd (let bad : e ∷ (one ++ other) ≡ [] = none in cc)
 
 pub passes_more : (one other : List Event) (k l m : KeeperView) (h i j : HartView) → HasPassed one k l h i → HasPassed other l m i j → HasPassed (one ++ other) k m h j
 passes_more one other k l m h i j a b = record {
@@ -303,7 +301,8 @@ passes_more one other k l m h i j a b = record {
   trail = b.trail ∙ ap (λ (items : List TrailItem). items ++ took_behind l.events other) a.trail ∙ append_assoc h.trail (took_behind k.events one) (took_behind l.events other)
       ∙ ap (λ (es : List Event). h.trail ++ (took_behind k.events one ++ took_behind es other)) a.events ∙ ap (λ (items : List TrailItem). h.trail ++ items) (sym (took_both k.events one other));
   tried = b.tried ∙ a.tried;
-  same = λ none. b.same (both_none one other none).1 ∙ a.same (both_none one other none).0;
+  opens = b.opens ∙ a.opens;
+  pending = λ j. b.pending j ∙ a.pending j;
   entries = a.entries ++ b.entries;
   known = b.known ∙ ap (λ (es : List Entry). es ++ b.entries) a.known ∙ append_assoc (known_of h.lane) a.entries b.entries;
   plain = λ x there. ⊎_elim

@@ -3,7 +3,7 @@ use Rattle.std.proofs.Common.{◌≡◌, ◌≢◌, ◌⊎◌, ⊎_elim, inl, in
 use mathlib.Core.Logic.{dite}
 use native.Mathlib.Decide.{ℕ_discrete}
 use Rattle.std.specs.List.{Contains}
-use Rattle.std.proofs.lemmas.List.Elements.{Contains-append_cases}
+use Rattle.std.proofs.lemmas.List.Elements.{Contains-append_cases, Contains-append_left, Contains-append_right}
 use Rattle.history_event.specs.declared.event.Event.{Event}
 use Rattle.history_event.specs.declared.event.Event.TheVariants as events
 use Rattle.history_event.specs.declared.state.Granting.{Granting}
@@ -29,7 +29,7 @@ use Rattle.history_state.specs.Allowed.{Allowed}
 use Rattle.history_state.specs.Grants.{is_open}
 use Rattle.history_state.specs.Legal.{Lawful}
 use Rattle.history_state.specs.Lemmas.History.{after_push, legal_is_lawful}
-use Rattle.history_state.specs.Lemmas.Lists.{in_map, none_in, only_in}
+use Rattle.history_state.specs.Lemmas.Lists.{here, in_map, none_in, only_in}
 use Rattle.history_state.specs.Lemmas.Tidy.{one_number, tidy_after}
 use Rattle.history_state.specs.Setting.{Machine, Setting}
 use Rattle.history_state.specs.Slots.{HasNoGrant, MayBind, MayLose}
@@ -41,11 +41,12 @@ use Rattle.history_journal.specs.Following.{MayFollow, machine_of}
 use Rattle.history_memory.specs.Remade.{HasSlot}
 use Rattle.link_state.specs.Granting.{HasOpenGrant}
 use Rattle.link_state.specs.Table.{LinkTable}
-use Rattle.kept_words.specs.Kept.{AreKept}
+use Rattle.kept_words.specs.Kept.{AreKept, IsFateEvent}
 use Rattle.kept_words.specs.Keeping.{AskedKept, settled_view}
 use Rattle.kept_words.specs.Settling.{LostMayLose, WonMayBind}
 use Rattle.kept_words.specs.Staying.{fated_in, number_in}
-use Rattle.link_keeper.proofs.Kept.{inside, later_number, row_field}
+use Rattle.link_keeper.proofs.Kept.{inside, later_event, later_number, row_field}
+use Rattle.link_keeper.specs.Finishing.{IsSettlingOf, SettledUpTo}
 use Rattle.link_keeper.specs.Keeping.{AreOpen, FirstGoesOn, KeepsState, WasOver}
 use Rattle.link_keeper.specs.Settling.{HasSettled, IsFoundOpen, SettlesOne}
 
@@ -68,6 +69,32 @@ split_last {X} (z ∷ xs) (p ∷ past) rest x y is =
     (λ (old : (front : List X) × (rest ≡ front ++ x ∷ []) × (xs ≡ past ++ y ∷ front)). inl (old.0, old.1, (λ i. same i ∷ old.2 i)))
     (λ (at : (xs ≡ past) × (x ≡ y)). inr ((λ i. same i ∷ at.0 i), at.1))
     (split_last xs past rest x y behind)
+
+-- ---- in the order of the harts
+
+-- over a longer journal
+settling_later : (journal more : List Event) (h : ℕ) (e : Event) → IsSettlingOf journal h e → IsSettlingOf (journal ++ more) h e
+settling_later journal more h e (g, f, at, is) =
+    (g, f, later_event journal more h g at, subst (λ (n : ℕ). IsFateEvent n f e) (sym (later_number journal more h g at)) is)
+
+pub settled_later : (journal more : List Event) (below : ℕ) (es : List Event) → SettledUpTo journal below es → SettledUpTo (journal ++ more) below es
+settled_later journal more below es (SettledUpTo.nothing n) = SettledUpTo.nothing below
+settled_later journal more below es (SettledUpTo.one_more front h n e before low is) =
+    SettledUpTo.one_more front h below e (settled_later journal more h front before) low (settling_later journal more h e is)
+
+-- of one hart more
+settled_above : (journal : List Event) (n : ℕ) (es : List Event) → SettledUpTo journal n es → SettledUpTo journal (n + 1) es
+settled_above journal n es (SettledUpTo.nothing m) = SettledUpTo.nothing (n + 1)
+settled_above journal n es (SettledUpTo.one_more front h m e before low is) = SettledUpTo.one_more front h (n + 1) e before (omega (arith, low)) is
+
+in_order_more : (n : ℕ) (journal longer : List Event) (all one : List Event) → longer ≡ journal ++ one → SettledUpTo journal n all
+    → (one ≡ []) ⊎ ((e : Event) × (one ≡ e ∷ []) × IsSettlingOf longer n e) → SettledUpTo longer (n + 1) (all ++ one)
+in_order_more n journal longer all one are before (inl none) =
+    subst (SettledUpTo longer (n + 1)) (sym (ap (λ (es : List Event). all ++ es) none ∙ append-nil all)) (settled_above longer n all
+    (subst (λ (es : List Event). SettledUpTo es n all) (sym are) (settled_later journal one n all before)))
+in_order_more n journal longer all one are before (inr (e, is, settles)) =
+    subst (SettledUpTo longer (n + 1)) (ap (λ (es : List Event). all ++ es) (sym is)) (SettledUpTo.one_more all n (n + 1) e
+    (subst (λ (es : List Event). SettledUpTo es n all) (sym are) (settled_later journal one n all before)) (omega arith) settles)
 
 abbrev pub SlotsStand : Type 0
 SlotsStand = (m : Machine) (journal : List Event) (g : Granting) → AcceptsOnly m → Lawful m journal → Contains (after journal).grants g → g.standing ≡ Open → HasSlot (after journal) g
@@ -162,16 +189,26 @@ module _ (w : Setting) (begun : List Event) (state : LinkTable) (k : KeeperView)
     pub settled_open : AreOpen l
     settled_open = its_open
 
-    pub settled_row : hart_of e ≡ None → l.harts ≡ k.harts → SettlesOne h k l
-    settled_row nobodys harts = record {
+    pub settled_row : IsFateEvent (number_in k.events h g) fate e → hart_of e ≡ None → l.harts ≡ k.harts → l.joined ≡ k.joined → l.opens ≡ k.opens → SettlesOne h k l
+    settled_row fated nobodys harts joined opens = record {
       more = e ∷ [];
       events = events_are;
       nobodys = λ x there. ap hart_of (sym (only_in e x there)) ∙ nobodys;
+      settles = inr (
+        e,
+        refl,
+        subst (λ (es : List Event). IsSettlingOf es h e) (sym events_are)
+            (settling_later k.events (e ∷ []) h e (g, fate, keeps.view.kept.granted h g low (inl pending), fated)),
+      );
       harts = harts;
+      joined = joined;
       others = λ m apart. row_l m ∙ row_other m apart;
       issued = ap (λ (r : Row). r.issued) (row_l h ∙ row_is);
       since = ap (λ (r : Row). r.since) (row_l h ∙ row_is);
       found = λ p waits. absurd ((was_waiting h p waits).0 refl);
+      opens = [];
+      opened = opens ∙ sym (append-nil k.opens);
+      left_open = λ p waits. absurd ((was_waiting h p waits).0 refl);
     }
 
   -- ---- what an ask answered
@@ -228,11 +265,16 @@ module _ (w : Setting) (begun : List Event) (state : LinkTable) (k : KeeperView)
     more = [];
     events = sym (append-nil k.events);
     nobodys = λ x there. absurd (none_in x there);
+    settles = inl refl;
     harts = refl;
+    joined = refl;
     others = λ m apart. refl;
     issued = refl;
     since = refl;
     found = λ p waits. absurd (none_pending id low none p waits);
+    opens = [];
+    opened = sym (append-nil k.opens);
+    left_open = λ p waits. absurd (none_pending id low none p waits);
   }
 
 -- ---- one row after another
@@ -242,10 +284,15 @@ settles_nothing k = record {
   more = [];
   events = sym (append-nil k.events);
   nobodys = λ x there. absurd (none_in x there);
+  in_order = SettledUpTo.nothing 0;
   harts = refl;
+  joined = refl;
   issued = λ m. refl;
   since = λ m. refl;
   found = λ m low. absurd (omega (arith, low));
+  opens = [];
+  opened = sym (append-nil k.opens);
+  left_open = λ m g low. absurd (omega (arith, low));
 }
 
 pub settles_more : (n : ℕ) (k l m : KeeperView) → HasSettled n k l → SettlesOne n l m → HasSettled (n + 1) k m
@@ -253,7 +300,9 @@ settles_more n k l m all one = record {
   more = all.more ++ one.more;
   events = one.events ∙ ap (λ (es : List Event). es ++ one.more) all.events ∙ append_assoc k.events all.more one.more;
   nobodys = λ x there. ⊎_elim (λ (old : Contains all.more x). all.nobodys x old) (λ (new : Contains one.more x). one.nobodys x new) (Contains-append_cases all.more one.more x there);
+  in_order = in_order_more n l.events m.events all.more one.more one.events all.in_order one.settles;
   harts = one.harts ∙ all.harts;
+  joined = one.joined ∙ all.joined;
   issued = λ j. dite (ℕ_discrete j n)
       (λ (same : j ≡ n). subst (λ (i : ℕ). (row_of m i).issued ≡ (row_of k i).issued) (sym same) (one.issued ∙ all.issued n))
       (λ (apart : j ≢ n). ap (λ (r : Row). r.issued) (one.others j apart) ∙ all.issued j);
@@ -263,6 +312,13 @@ settles_more n k l m all one = record {
   found = λ j low. dite (ℕ_discrete j n)
       (λ (same : j ≡ n). subst (λ (i : ℕ). IsFoundOpen (row_of m i)) (sym same) one.found)
       (λ (apart : j ≢ n). subst IsFoundOpen (sym (one.others j apart)) (all.found j (let more : j < n + 1 = low in omega (arith, more, apart))));
+  opens = all.opens ++ one.opens;
+  opened = one.opened ∙ ap (λ (ms : List ℕ). ms ++ one.opens) all.opened ∙ append_assoc k.opens all.opens one.opens;
+  left_open = λ j g low waits. dite (ℕ_discrete j n)
+      (λ (same : j ≡ n). subst (Contains (all.opens ++ one.opens)) (sym same)
+      (Contains-append_right all.opens one.opens n (one.left_open g (sym (ap (λ (i : ℕ). (row_of m i).pending) same) ∙ waits))))
+      (λ (apart : j ≢ n). Contains-append_left all.opens one.opens j
+      (all.left_open j g (let more : j < n + 1 = low in omega (arith, more, apart)) (sym (ap (λ (r : Row). r.pending) (one.others j apart)) ∙ waits)));
 }
 
 -- ---- what may be settled
@@ -317,19 +373,26 @@ module _ (w : Setting) (begun : List Event) (state : LinkTable) (k : KeeperView)
     more = [];
     events = ap (λ (x : KeeperView). x.events) is ∙ sym (append-nil k.events);
     nobodys = λ x there. absurd (none_in x there);
+    settles = inl refl;
     harts = ap (λ (x : KeeperView). x.harts) is;
+    joined = ap (λ (x : KeeperView). x.joined) is;
     others = λ m apart. ap (λ (x : KeeperView). row_of x m) is ∙ row_else k h (record (row_of k h) { found_open = true }) (inside k h keeps.view.kept.long low) m apart;
     issued = ap (λ (r : Row). r.issued) row_is;
     since = ap (λ (r : Row). r.since) row_is;
     found = λ p waits. (ap (λ (r : Row). r.found_open) row_is, ap (λ (r : Row). r.since) row_is ∙ not_since (row_of k h).since refl says);
+    opens = h ∷ [];
+    opened = ap (λ (x : KeeperView). x.opens) is;
+    left_open = λ p waits. here h [];
   }
     where
       row_is : row_of l h ≡ record (row_of k h) { found_open = true }
       row_is = ap (λ (x : KeeperView). row_of x h) is ∙ row_here k h (record (row_of k h) { found_open = true }) (inside k h keeps.view.kept.long low)
   row_settles asked.Won says is = settled_row w begun state k keeps h low g pending FateWon Bound (events.Bound number) (ap (λ (n : ℕ). settle n Bound (after k.events)) numbered) l
-      (ap (λ (x : KeeperView). x.events) is) (ap (λ (x : KeeperView). x.rows) is) refl (ap (λ (x : KeeperView). x.harts) is)
+      (ap (λ (x : KeeperView). x.events) is) (ap (λ (x : KeeperView). x.rows) is) (subst (λ (n : ℕ). IsFateEvent n FateWon (events.Bound number)) numbered IsFateEvent.as_won) refl
+      (ap (λ (x : KeeperView). x.harts) is) (ap (λ (x : KeeperView). x.joined) is) (ap (λ (x : KeeperView). x.opens) is)
   row_settles (asked.Lost saw) says is = settled_row w begun state k keeps h low g pending FateLost (Lost saw) (events.Lost number saw) (ap (λ (n : ℕ). settle n (Lost saw) (after k.events)) numbered) l
-      (ap (λ (x : KeeperView). x.events) is) (ap (λ (x : KeeperView). x.rows) is) refl (ap (λ (x : KeeperView). x.harts) is)
+      (ap (λ (x : KeeperView). x.events) is) (ap (λ (x : KeeperView). x.rows) is) (subst (λ (n : ℕ). IsFateEvent n FateLost (events.Lost number saw)) numbered (IsFateEvent.as_lost saw)) refl
+      (ap (λ (x : KeeperView). x.harts) is) (ap (λ (x : KeeperView). x.joined) is) (ap (λ (x : KeeperView). x.opens) is)
 
 pub settles_told : (w : Setting) (begun : List Event) (state : LinkTable) (k : KeeperView) (keeps : KeepsState w begun state k) (h : ℕ) (low : h < harts_at_most) (g : Grant)
     (pending : (row_of k h).pending ≡ Some g) (number : ℕ) (numbered : number ≡ number_in k.events h g) (l : KeeperView) (answer : Asked) (found : ℕ) → Says found answer → TellsAsk k h found

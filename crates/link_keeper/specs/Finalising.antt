@@ -22,12 +22,12 @@ pub record HasPlan (s : State) (b : HartState) (spare : ℕ) (plan : FinalPlan) 
   pub is : (t : State) → due t b ≡ Due.finalise plan.code plan.object
   pub room : 0 < spare
 
-abbrev pub HasEvents : FinalPlan → Type 0
-HasEvents plan = (h : ℕ) → settles (did_by (plan_events h plan)) ≡ true
+abbrev pub PlansEvents : FinalPlan → Type 0
+PlansEvents plan = (h : ℕ) → settles (did_by (plan_events h plan)) ≡ true
 
 -- a plan with events, if there is one
 abbrev pub IsPlannedOr : State → HartState → ℕ → Option FinalPlan → Type 0
-IsPlannedOr s b spare plan = IfSome plan (λ p. HasPlan s b spare p × HasEvents p)
+IsPlannedOr s b spare plan = IfSome plan (λ p. HasPlan s b spare p × PlansEvents p)
 
 abbrev pub IsPlannedTurn : State → HartState → ℕ → LastTurn → Type 0
 IsPlannedTurn s b spare (turns.Quiet plan) = HasPlan s b spare plan × ((h : ℕ) → plan_events h plan ≡ [])

@@ -1,6 +1,6 @@
 -- What a run on threads comes to, once its harts have ended: a whole journal, and each hart's trail beside it. For whoever runs a program, and for whoever
 -- reads what a run promises.
-use Rattle.std.specs.Prelude.{◌≡◌, ℕ, List, [], ◌++◌, length, Some, None, Contains}
+use Rattle.std.specs.Prelude.{◌≡◌, ℕ, ◌<◌, List, [], ◌∷◌, ◌++◌, length, Some, None, Contains}
 use Rattle.std.specs.List.{slice_get}
 use Rattle.history_event.specs.declared.event.Event.{Event}
 use Rattle.history_event.specs.declared.event.Event.TheVariants.{Lost as LostEvent}
@@ -10,6 +10,7 @@ use Rattle.word_rule.specs.declared.view.Fate.{Fate}
 use Rattle.word_rule.specs.declared.view.Fate.TheVariants.{Lost, Won}
 use Rattle.word_rule.specs.declared.view.HartView.{HartView}
 use Rattle.word_rule.specs.Generations.{AllKept}
+use Rattle.word_rule.specs.Layout.{harts_at_most}
 use Rattle.word_rule.specs.Slots.{HasLost, HasWon, Rising}
 use Rattle.word_rule.specs.Views.{BeginsWith, exchanges_of}
 use Rattle.history_state.specs.Legal.{Legal, Whole}
@@ -52,12 +53,23 @@ pub record IsExchangeOf (journal : List Event) (harts : List HartView) (n : ℕ)
   pub come : HasCome f (exchanges_of view.trail) grant
   pub shown : (i saw : ℕ) → e ≡ LostEvent i saw → Contains (exchanges_of view.trail) (record { grant = grant; found = saw })
 
--- behind the journal that was, grants are settled that were open still, and nothing else came. All is a legal history and, where the final destructors
--- have run, a whole one; and each hart's trail says what it says
+-- an event settles a grant of this hart
+abbrev pub IsSettlingOf : List Event → ℕ → Event → Type 0
+IsSettlingOf journal h e = (g : Grant) × (f : Fate) × IsGrantEvent journal h g × IsFateEvent (number_in journal h g) f e
+
+-- these settle grants of harts below this number: each hart's behind those of the harts below it
+pub data SettledUpTo (journal : List Event) : ℕ → List Event → Type 0 where
+  nothing : (below : ℕ) → SettledUpTo journal below []
+  one_more : (front : List Event) (h below : ℕ) (e : Event) → SettledUpTo journal h front → h < below → IsSettlingOf journal h e
+      → SettledUpTo journal below (front ++ e ∷ [])
+
+-- behind the journal that was, grants are settled that were open still, in the order of their harts, and nothing else came. All is a legal history and,
+-- where the final destructors have run, a whole one; and each hart's trail says what it says
 pub record RunIsOver (w : Setting) (begun before journal : List Event) (harts : List HartView) : Type 0 where
   pub more : List Event
   pub are : journal ≡ before ++ more
   pub nobodys : (e : Event) → Contains more e → hart_of e ≡ None
+  pub in_order : SettledUpTo journal harts_at_most more
   pub legal : Legal w journal
   pub begins : BeginsWith journal begun
   pub own : AreOfHarts w journal

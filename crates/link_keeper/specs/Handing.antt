@@ -1,5 +1,5 @@
 -- What a turn came to is passed to its hart. For the code of this crate alone.
-use Rattle.std.specs.Prelude.{◌≡◌, ◌≢◌, ◌⊎◌, ℕ, ◌≤◌, ◌<◌, ◌==◌, ◌&&◌, Bool, true, false, if◌then◌else◌, None, List, [], ◌∷◌, ◌++◌, length, Some, Contains}
+use Rattle.std.specs.Prelude.{◌≡◌, ◌≢◌, ℕ, ◌≤◌, ◌<◌, ◌==◌, ◌&&◌, Bool, true, false, if◌then◌else◌, None, List, [], ◌∷◌, ◌++◌, length, Some, Contains}
 use Rattle.history_event.specs.declared.event.Event.{Event}
 use Rattle.word_rule.specs.declared.entry.Entry.{Entry}
 use Rattle.word_rule.specs.declared.view.HartView.{HartView}
@@ -69,8 +69,9 @@ pub record IsPassed (w : Setting) (begun : List Event) (k l : KeeperView) (h i :
   pub known : known_of i.lane ≡ h.lane.taken ++ first ∷ more
   pub low : is_event_mark first.mark ≡ true → first.number ≤ length l.events
   pub plain : (e : Entry) → Contains more e → (e.mark ≡ 1) × (e.slot ≡ 0) × (e.number ≤ length l.events)
-  -- the other harts' rows are as they were, unless it called again for a second event
-  pub others : (m : ℕ) → m ≢ h.number → (row_of l m ≡ row_of k m) ⊎ (1 < length own)
+  -- none of the other harts' grants was asked for or settled
+  pub opens : l.opens ≡ k.opens
+  pub pending : (m : ℕ) → m ≢ h.number → (row_of l m).pending ≡ (row_of k m).pending
 
 -- ---- the hart's blocks
 

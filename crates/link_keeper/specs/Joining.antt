@@ -29,7 +29,6 @@ pub record SettlesEnded (asked : ℕ) (k l : KeeperView) : Type 0 where
   pub settled : HasSettled asked k l
   pub none : (m : ℕ) → m < asked → (row_of l m).pending ≡ None
   pub rest : (m : ℕ) → asked ≤ m → row_of l m ≡ row_of k m
-  pub joined : l.joined ≡ k.joined
 
 -- each of the first harts has taken all that was issued to it
 abbrev pub HaveTakenAll : ℕ → KeeperView → Type 0

@@ -27,7 +27,8 @@ WasOver w journal = (past : List Event) × (since : List Event) × (journal ≡ 
 
 -- since then only the first hart's events come, and nobody's
 abbrev pub FirstGoesOn : Setting → List Event → Type 0
-FirstGoesOn w journal = (past : List Event) (e : Event) (rest : List Event) → journal ≡ past ++ e ∷ rest → WasOver w past → (hart_of e ≡ Some 0) ⊎ (hart_of e ≡ None)
+FirstGoesOn w journal = (past : List Event) (e : Event) (rest : List Event) → journal ≡ past ++ e ∷ rest → WasOver w past
+    → (hart_of e ≡ Some 0) ⊎ (hart_of e ≡ None)
 
 -- the keeper's view is that of its journal. `begun` is the journal that the run had when its harts' seats were made
 pub record KeepsView (w : Setting) (begun : List Event) (k : KeeperView) : Type 0 where
@@ -42,15 +43,16 @@ pub record KeepsState (w : Setting) (begun : List Event) (state : LinkTable) (k 
   pub same : k.events ≡ state.events
 
 -- folders and files are those of the run, and the library's counts show each refusal since the seats were made: `first` is what it had counted then
-pub record IsKept (w : Setting) (begun : List Event) (first : Counts) (state : LinkTable) (k : KeeperView) (folders : List (List ℕ)) (files : Option (List File))
-    (counts : Counts) : Type 0 where
+pub record IsKept (w : Setting) (begun : List Event) (first : Counts) (state : LinkTable) (k : KeeperView) (folders : List (List ℕ))
+    (files : Option (List File)) (counts : Counts) : Type 0 where
   pub keeps : KeepsState w begun state k
   pub folders_are : w.folders ≡ folders
   pub files_are : w.files ≡ files
   pub shown : ShowInCounts w.folders (drop (length begun) k.events) first counts
 
 -- what is behind the lock once it is closed
-pub record IsClosed (w : Setting) (begun : List Event) (first : Counts) (state : LinkTable) (k : KeeperView) (files : Option (List File)) (counts : Counts) : Type 0 where
+pub record IsClosed (w : Setting) (begun : List Event) (first : Counts) (state : LinkTable) (k : KeeperView)
+    (files : Option (List File)) (counts : Counts) : Type 0 where
   pub folders : List (List ℕ)
   pub kept : IsKept w begun first state k folders files counts
 

@@ -92,7 +92,8 @@ pub record HasPassed (own : List Event) (k l : KeeperView) (h i : HartView) : Ty
   pub number : i.number ≡ h.number
   pub trail : i.trail ≡ h.trail ++ took_behind k.events own
   pub tried : i.lane.tried ≡ h.lane.tried
-  pub same : own ≡ [] → l ≡ k
+  pub opens : l.opens ≡ k.opens
+  pub pending : (m : ℕ) → (row_of l m).pending ≡ (row_of k m).pending
   pub entries : List Entry
   pub known : known_of i.lane ≡ known_of h.lane ++ entries
   pub plain : (e : Entry) → Contains entries e → (e.mark ≡ 1) × (e.slot ≡ 0) × (e.number ≤ length l.events)

@@ -29,7 +29,7 @@ pub record ComesTo (w : Setting) (state : LinkTable) (k : KeeperView) (e : Event
 pub record Remakes (w : Setting) (begun : List Event) (e : Event) (k l : KeeperView) : Type 0 where
   pub remade : remakes_memory e ≡ true → IsRemadeView (after k.events) e k l
   pub keeps : remakes_memory e ≡ false → KeepsView w begun l
-  pub only : l ≡ record k { words = l.words; shown = l.shown; generation = l.generation }
+  pub only : l ≡ record k { words = l.words; shown = l.shown; retired = l.retired; generation = l.generation }
 
 -- ---- one change
 

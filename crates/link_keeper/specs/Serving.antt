@@ -29,8 +29,8 @@ pub record IsTaken (w : Setting) (state : LinkTable) (k : KeeperView) (id : ℕ)
 
 -- its events are counted, and the hart has what they came to: it stands where it goes on, and its trail has what the turn leaves. Where the first
 -- entry is an answer on thread-local storage there is room to keep it, and its module is there
-pub record IsHandedOver (w : Setting) (begun : List Event) (k l : KeeperView) (h i : HartView) (id : ℕ) (b c : HartState) (did : Did) (spare : ℕ) (first : Entry)
-    : Type 0 where
+pub record IsHandedOver (w : Setting) (begun : List Event) (k l : KeeperView) (h i : HartView) (id : ℕ) (b c : HartState) (did : Did)
+    (spare : ℕ) (first : Entry) : Type 0 where
   pub items : List TrailItem
   pub passed : IsPassed w begun k l h i (events_of did) items first
   pub row : IsAtRow i c.resolving

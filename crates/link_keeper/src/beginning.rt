@@ -11,6 +11,7 @@ ghost use Rattle.hart_linker.specs.Between.{HasHeard, IsBetweenTurns};
 ghost use Rattle.hart_linker.specs.Finals.{BeginsLast};
 ghost use Rattle.link_keeper.specs.Beginning.{EndsAgain, ends_in, first_exited};
 ghost use Rattle.link_keeper.specs.Keeping.{KeepsState, OpensNothing};
+ghost use Rattle.link_keeper.specs.Settling.{SettlesFirst, SettlesOrRests};
 ghost use Rattle.word_rule.specs.Views.{BeginsWith};
 
 use crate::attending::attend;
@@ -51,6 +52,7 @@ pub(crate) fn begin_finals<R: Wait, J: Opening>(
     requires exited { hart.old.hart.«end» ≡ Some (Exit code) }
     requires once { times_ended 0 (after seat.old.heard).endings ≤ 1 }
     ensures keeps { KeepsState J.setting J.journal state.new keeper.new }
+    ensures settled { SettlesOrRests seat.old.number keeper.old keeper.new }
     ensures begins { BeginsLast J.setting (starting_registers entry) seat.old seat.new hart.old.hart hart.new.hart result }
     ensures same { seat.new.number ≡ seat.old.number }
     ensures longer { BeginsWith seat.new.heard seat.old.heard }
@@ -121,6 +123,7 @@ fn end_again<R: Wait, J: Opening>(
     requires over { IsTrue (are_finals J.setting (after keeper.old.events)) }
     ensures keeps { KeepsState J.setting J.journal state.new keeper.new }
     ensures again { EndsAgain J.setting J.journal seat.old seat.new }
+    ensures settled { SettlesFirst seat.old.number keeper.old keeper.new }
     ensures opened { OpensNothing keeper.old.events keeper.new.events }
 {
     ends_are_few();

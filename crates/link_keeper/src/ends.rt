@@ -6,7 +6,7 @@ ghost use Rattle.hart_moves.specs.Moves.{ended};
 ghost use Rattle.tls_blocks.specs.Blocks.{BlockTable};
 ghost use Rattle.hart_linker.specs.Between.{BlocksFit, HasHeard};
 ghost use Rattle.link_keeper.specs.Keeping.{KeepsState, OpensNothing};
-ghost use Rattle.link_keeper.specs.Settling.{LeavesOpen};
+ghost use Rattle.link_keeper.specs.Settling.{SettlesFirst};
 ghost use Rattle.hart_linker.specs.Serving.{EndsTurn, HasRun};
 
 use crate::attending::attend;
@@ -41,7 +41,7 @@ pub(crate) fn end_hart<R: Wait, J: Opening>(
     ensures heard { HasHeard J.setting J.journal seat.new }
     ensures calling { seat.new.lane.calling ≡ false }
     ensures blocks { (d : BlockTable) → BlocksFit d seat.old → BlocksFit d seat.new }
-    ensures settled { LeavesOpen seat.old.number keeper.old keeper.new }
+    ensures settled { SettlesFirst seat.old.number keeper.old keeper.new }
     ensures opened { OpensNothing keeper.old.events keeper.new.events }
 {
     ends_are_few();

@@ -16,6 +16,7 @@ ghost use Rattle.history_state.specs.State.{State};
 ghost use Rattle.link_keeper.specs.Acting.{Acts, OpenNothing};
 ghost use Rattle.link_keeper.specs.Finalising.{HasPlan, IsPlannedOr, IsPlannedTurn, MayFinalise};
 ghost use Rattle.link_keeper.specs.Keeping.{KeepsState, OpensNothing};
+ghost use Rattle.link_keeper.specs.Settling.{SettlesOrRests};
 ghost use Rattle.world_answers.specs.ReturnsPart.FinalTurns.Planned.{IsPlanned};
 ghost use Rattle.world_answers.specs.ReturnsPart.FinalTurns.Table.{plan_events};
 
@@ -77,6 +78,7 @@ pub(crate) fn finalise_hart<R: Wait, J: Opening>(
     ensures turn { ServesTurn J.setting seat.old seat.new hart.old.hart hart.new.hart }
     ensures between { IsBetweenTurns J.setting J.journal seat.new hart.new.hart blocks.new }
     ensures opened { OpensNothing keeper.old.events keeper.new.events }
+    ensures settled { SettlesOrRests seat.old.number keeper.old keeper.new }
     ensures only { (keeper.new.events ≡ keeper.old.events)
         ⊎ ((e : Event) × Contains (drop (length keeper.old.events) keeper.new.events) e × (hart_of e ≡ Some 0)) }
 {

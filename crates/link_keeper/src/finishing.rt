@@ -1,9 +1,9 @@
 //! The end of a run.
 
-ghost use Rattle.std.specs.Prelude.{◌≡◌, ℕ, ◌<◌, ◌≤◌, ◌++◌, false, length, map, None, Some, All};
+ghost use Rattle.std.specs.Prelude.{◌≡◌, ℕ, ◌<◌, ◌≤◌, false, length, map, None, Some, All};
 ghost use Rattle.std.specs.List.{slice_get};
 ghost use Rattle.word_rule.specs.declared.view.HartView.{HartView};
-ghost use Rattle.word_rule.specs.KeeperSteps.{HasEnded, HasTakenAll};
+ghost use Rattle.word_rule.specs.KeeperSteps.{AreJoinedOnce, HasEnded, HasTakenAll};
 ghost use Rattle.word_rule.specs.Views.{row_of};
 ghost use Rattle.word_steps.specs.Knowing.{with_joined};
 ghost use Rattle.hart_linker.specs.Between.{HasHeard};
@@ -42,7 +42,7 @@ pub fn finish<J: Opening>(
     ensures keeps { KeepsView J.setting J.journal keeper.new }
     ensures known { IsOver keeper.new }
     ensures state { state.new.events ≡ keeper.new.events }
-    ensures joined { keeper.new.joined ≡ keeper.old.joined ++ map (knows keeper.old.events) seats.items }
+    ensures joined { keeper.new.joined ≡ map (knows keeper.old.events) seats.items }
 {
     records_stay();
     run_is_over();
@@ -104,7 +104,6 @@ fn settle_last<J: Opening>(
     ensures keeps { KeepsState J.setting J.journal state.new keeper.new }
     ensures settled { SettlesOne id keeper.old keeper.new }
     ensures none { (row_of keeper.new id).pending ≡ None }
-    ensures joined { keeper.new.joined ≡ keeper.old.joined }
 {
     slots_stand();
     accepted_object();
@@ -121,6 +120,7 @@ fn look_over<J: Naming>(memory: &Memory<J>, keeper: &mut KeeperSeat<J>, harts: u
     requires ended { (m : ℕ) → m < harts → (j : HartView) × HasEnded keeper.old m j }
     ensures same { keeper.new ≡ keeper.old }
     ensures taken { HaveTakenAll harts keeper.old }
+    ensures once { AreJoinedOnce keeper.old }
     ensures decided { AreDecided keeper.old }
 {
     for number in 0..harts {
@@ -134,6 +134,7 @@ fn look_at<J: Naming>(memory: &Memory<J>, keeper: &mut KeeperSeat<J>, id: HartId
     requires ended { (j : HartView) × HasEnded keeper.old id j }
     ensures same { keeper.new ≡ keeper.old }
     ensures taken { (j : HartView) → HasEnded keeper.old id j → (state : ℕ) × HasTakenAll keeper.old id state j }
+    ensures once { AreJoinedOnce keeper.old }
     ensures decided { AreDecided keeper.old }
 {
     let _ = calling(memory, keeper, id);

@@ -8,7 +8,7 @@ ghost use Rattle.history_calls.specs.CallLaws.Coming.{IsOver};
 ghost use Rattle.history_journal.specs.Following.{machine_of};
 ghost use Rattle.history_state.specs.State.{State};
 ghost use Rattle.link_keeper.specs.Keeping.{KeepsState};
-ghost use Rattle.link_keeper.specs.Settling.{LeavesOpen};
+ghost use Rattle.link_keeper.specs.Settling.{SettlesFirst};
 ghost use Rattle.word_rule.specs.Views.{BeginsWith};
 ghost use Rattle.world_turns.specs.Counts.{ShowInCounts};
 
@@ -48,7 +48,7 @@ pub(crate) fn serve_hart<R: Wait, J: Opening, L: Library>(
     requires between { IsBetweenTurns J.setting J.journal seat.old hart.old.hart blocks.old }
     requires asks { (s : State) → is_asking (due s hart.old.hart) ≡ true }
     ensures keeps { KeepsState J.setting J.journal state.new keeper.new }
-    ensures settled { LeavesOpen seat.old.number keeper.old keeper.new }
+    ensures settled { SettlesFirst seat.old.number keeper.old keeper.new }
     ensures longer { BeginsWith keeper.new.events keeper.old.events }
     ensures turn { ServesTurn J.setting seat.old seat.new hart.old.hart hart.new.hart }
     ensures between { IsBetweenTurns J.setting J.journal seat.new hart.new.hart blocks.new }

@@ -1,10 +1,11 @@
-use Rattle.std.proofs.Common.{ℕ, ◌<◌, true, sym, ap, subst, ◌∙◌}
+use Rattle.std.proofs.Common.{◌≡◌, ℕ, ◌<◌, true, sym, ap, subst, ◌∙◌}
 use Rattle.history_state.specs.Setting.{Machine}
 use Rattle.word_rule.specs.declared.view.HartView.{HartView}
 use Rattle.word_rule.specs.declared.view.KeeperView.{KeeperView}
 use Rattle.word_rule.specs.KeeperSteps.{awaited_if}
 use Rattle.word_rule.specs.Views.{known_of, row_of}
 use Rattle.link_keeper.proofs.Attended.{attends, awaited_state, nobodys_came}
+use Rattle.link_keeper.proofs.Left.{settled_first}
 use Rattle.link_keeper.proofs.Settled.{none_open}
 use Rattle.link_keeper.proofs.attending.attend.Goals as goal
 
@@ -30,3 +31,8 @@ returns-clause-attends g c = attends c.entries_are_events.ensures.tail g.J.Openi
 pub returns-clause-settled : goal.returns-clause-settled
 returns-clause-settled g c = nobodys_came c.args.keeper.now c.begin.new.keeper c.settle_all.new.keeper c.args.id
     (c.begin.ensures.keeper ∙ ap (λ (k : KeeperView). awaited_if c.args.id true k) c.tell.ensures.keeper) c.settle_all.ensures.settled
+
+pub returns-clause-first : goal.returns-clause-first
+returns-clause-first g c = settled_first c.args.seat.now.number c.args.keeper.now c.begin.new.keeper c.settle_all.new.keeper
+    (subst (λ n. c.begin.new.keeper ≡ awaited_if n true c.args.keeper.now) c.requires.id
+    (c.begin.ensures.keeper ∙ ap (λ (k : KeeperView). awaited_if c.args.id true k) c.tell.ensures.keeper)) c.settle_all.ensures.settled

@@ -1,4 +1,4 @@
-use Rattle.std.proofs.Common.{◌≡◌, Bool, true, false, List, IsTrue, refl, sym, ap, subst, ◌∙◌}
+use Rattle.std.proofs.Common.{◌≡◌, inl, inr, ℕ, Bool, true, false, List, IsTrue, refl, sym, ap, subst, ◌∙◌}
 use Rattle.std.specs.Bool.{OnFalse, OnTrue}
 use Rattle.std.proofs.lemmas.Bool.{false≢true, true≢false}
 use Rattle.history_event.specs.declared.event.Event.{Event}
@@ -10,6 +10,7 @@ use Rattle.word_rule.specs.declared.view.HartView.{HartView}
 use Rattle.word_rule.specs.declared.view.KeeperView.{KeeperView}
 use Rattle.world_answers.specs.ReturnsPart.FinalTurns.Begins.{StartsFinals}
 use Rattle.link_keeper.specs.Keeping.{KeepsState, OpensNothing}
+use Rattle.link_keeper.specs.Settling.{SettlesFirst}
 use Rattle.link_keeper.proofs.Begun.{are_last, begins_so, between_so}
 use Rattle.link_keeper.proofs.Lacking.{lacks_between, lacks_longer, lacks_so, none_so, opens_none, runs_so, still_between}
 use Rattle.link_keeper.proofs.beginning.begin_finals.Goals as goal
@@ -151,3 +152,16 @@ returns-in-Err-clause-between g c =
 pub returns-in-Err-clause-opened : goal.returns-in-Err-clause-opened
 returns-in-Err-clause-opened g c =
     subst (λ (x : KeeperView). OpensNothing x.events c.end_again.new.keeper.events) c.hear.ensures.keeper c.end_again.ensures.opened
+
+pub returns-then-not-have_exited-clause-settled : goal.returns-then-not-have_exited-clause-settled
+returns-then-not-have_exited-clause-settled g c = inl c.hear.ensures.keeper
+
+pub returns-in-Ok-true-clause-settled : goal.returns-in-Ok-true-clause-settled
+returns-in-Ok-true-clause-settled g c = inl c.hear.ensures.keeper
+
+pub returns-in-Ok-false-clause-settled : goal.returns-in-Ok-false-clause-settled
+returns-in-Ok-false-clause-settled g c = inl c.hear.ensures.keeper
+
+pub returns-in-Err-clause-settled : goal.returns-in-Err-clause-settled
+returns-in-Err-clause-settled g c = inr (subst (λ (k : KeeperView). SettlesFirst c.args.seat.now.number k c.end_again.new.keeper) c.hear.ensures.keeper
+    (subst (λ (n : ℕ). SettlesFirst n c.hear.new.keeper c.end_again.new.keeper) (ap (λ (x : HartView). x.number) c.hear.ensures.hears.told) c.end_again.ensures.settled))

@@ -1,8 +1,9 @@
-use Rattle.std.proofs.Common.{[], refl, sym, ap, length, ◌∙◌}
+use Rattle.std.proofs.Common.{◌<◌, [], refl, sym, ap, subst, length, ◌∙◌}
 use Rattle.history_event.specs.declared.event.Event.TheVariants.{Ended}
 use Rattle.history_event.specs.declared.hart_end.HartEnd.TheVariants.{Memory}
 use Rattle.link_state.specs.Table.{LinkTable}
 use Rattle.link_keeper.proofs.Ended.{again_low, again_may, end_times, end_within, ends_again, noted_follows, noted_next}
+use Rattle.link_keeper.proofs.Left.{one_behind_settled}
 use Rattle.link_keeper.proofs.Shown.{one_more_came}
 use Rattle.link_keeper.proofs.beginning.end_again.Goals as goal
 
@@ -57,3 +58,15 @@ returns-clause-opened g c = one_more_came c.args.keeper.now.events c.attend.new.
     (ends_again c.states_stay.ensures.events c.records_stay.ensures.quiet g.J.Opening.setting g.J.Opening.journal c.attend.new.state c.ended.new.self c.args.keeper.now c.attend.new.keeper c.pass_next.new.keeper
     c.args.seat.now c.attend.new.seat c.pass_next.new.seat c.id_of-id.result c.attend.ensures.keeps c.requires.heard c.id_of-id.ensures (c.id_of-id.ensures ∙ c.requires.zeroth) c.requires.some c.requires.over
     c.attend.ensures.settled (c.number.ensures.lane.idle c.requires.calling) c.attend.ensures.attends c.ended.ensures c.pass_next.ensures.passed).events refl
+
+pub returns-clause-settled : goal.returns-clause-settled
+returns-clause-settled g c =
+    let w = g.J.Opening.setting in
+    let zeroth = c.id_of-id.ensures ∙ c.requires.zeroth in
+    let next = noted_next w g.J.Opening.journal c.attend.new.state c.attend.new.keeper c.args.seat.now c.attend.new.seat c.id_of-id.result c.attend.ensures.keeps c.requires.heard c.id_of-id.ensures c.attend.ensures.attends
+    (again_may w g.J.Opening.journal c.args.keeper.now c.attend.new.keeper c.args.seat.now c.attend.new.seat c.id_of-id.result c.attend.ensures.settled zeroth c.requires.over)
+    (again_low w c.id_of-id.result zeroth c.requires.some) (λ _. zeroth) c.states_stay.ensures.events c.records_stay.ensures.quiet Memory c.ended.new.self
+    (ap (λ (t : LinkTable). t.events) c.ended.ensures) (ap (λ (t : LinkTable). t.harts) c.ended.ensures) in
+    one_behind_settled c.args.seat.now.number c.args.keeper.now c.attend.new.keeper c.pass_next.new.keeper c.attend.new.seat c.pass_next.new.seat c.id_of-id.result (Ended c.id_of-id.result Memory)
+    c.attend.ensures.keeps.view.kept.long (subst (λ n. n < 16) (c.number.ensures.number ∙ sym c.id_of-id.ensures) c.number.ensures.low) c.id_of-id.ensures refl c.attend.ensures.first
+    (c.pass_next.ensures.passed (Ended c.id_of-id.result Memory) [] next)

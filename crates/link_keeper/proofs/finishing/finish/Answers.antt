@@ -1,10 +1,11 @@
-use Rattle.std.proofs.Common.{ap, sym, subst, ◌∙◌, arith}
+use Rattle.std.proofs.Common.{List, ◌++◌, map, ap, sym, subst, ◌∙◌, arith}
 use Rattle.history_state.specs.Setting.{Machine}
+use Rattle.word_rule.specs.declared.view.HartView.{HartView}
 use Rattle.word_rule.specs.declared.view.KeeperView.{KeeperView}
 use Rattle.kept_words.specs.Over.{IsOver}
-use Rattle.link_keeper.specs.Finishing.{RunIsOver}
+use Rattle.link_keeper.specs.Finishing.{RunIsOver, knows}
 use Rattle.link_keeper.specs.Keeping.{KeepsView}
-use Rattle.link_keeper.proofs.Finished.{are_there, have_ended, joined_state, over}
+use Rattle.link_keeper.proofs.Finished.{alone, are_there, have_ended, joined_state, over}
 use Rattle.link_keeper.proofs.finishing.finish.Goals as goal
 
 pub settle_ended-requires-clause-keeps : goal.settle_ended-requires-clause-keeps
@@ -36,7 +37,13 @@ pub returns-clause-state : goal.returns-clause-state
 returns-clause-state g c = sym c.settle_ended.ensures.keeps.same ∙ ap (λ (k : KeeperView). k.events) (sym c.look_over.ensures.same)
 
 pub returns-clause-joined : goal.returns-clause-joined
-returns-clause-joined g c = ap (λ (k : KeeperView). k.joined) c.look_over.ensures.same ∙ c.settle_ended.ensures.settled.joined ∙ ap (λ (k : KeeperView). k.joined) c.join_all.ensures.joined
+returns-clause-joined g c =
+    ap (λ (k : KeeperView). k.joined) c.look_over.ensures.same ∙ c.settle_ended.ensures.settled.settled.joined ∙ ap (λ (k : KeeperView). k.joined) c.join_all.ensures.joined
+    ∙ ap (λ (front : List HartView). front ++ map (knows c.args.keeper.now.events) c.args.seats.items)
+    (alone c.run_is_over.ensures.whole c.run_is_over.ensures.trails c.run_is_over.ensures.fates g.J.Opening.setting g.J.Opening.journal
+    (c.accepted_object.ensures.machine g.J.Opening.setting.machine (ap (λ (x : Machine). x.verdict) c.requires.keeps.machine)) c.args.keeper.now c.join_all.new.keeper c.join_all.new.keeper c.args.seats.items
+    c.join_all.ensures.joined c.join_all.ensures.fronts c.requires.numbers c.requires.calling c.requires.all c.settle_ended.new.keeper c.settle_ended.ensures.settled.settled.joined c.look_over.ensures.once
+    c.settle_ended.ensures.keeps.view.kept.harts)
 
 pub returns-clause-keeps : goal.returns-clause-keeps
 returns-clause-keeps g c = subst (KeepsView g.J.Opening.setting g.J.Opening.journal) (sym c.look_over.ensures.same) c.settle_ended.ensures.keeps.view

@@ -3,7 +3,7 @@ use mathlib.Core.Logic.{dite}
 use native.Mathlib.Decide.{ℕ_discrete}
 use Rattle.word_rule.specs.declared.view.HartView.{HartView}
 use Rattle.word_rule.specs.declared.view.KeeperView.{KeeperView}
-use Rattle.word_rule.specs.KeeperSteps.{HasEnded, HasTakenAll}
+use Rattle.word_rule.specs.KeeperSteps.{AreJoinedOnce, HasEnded, HasTakenAll}
 use Rattle.link_keeper.specs.Joining.{AreDecided}
 use Rattle.link_keeper.proofs.finishing.look_over.Goals as goal
 
@@ -21,5 +21,6 @@ loop-number-preserved g c = record {
       (subst (λ (k : KeeperView). HasEnded k c.loop-number.number j → (state : ℕ) × HasTakenAll k c.loop-number.number state j) c.loop-number.invariant.same
       (subst (λ (n : ℕ). HasEnded c.loop-number.keeper n j → (state : ℕ) × HasTakenAll c.loop-number.keeper n state j) c.new.ensures (c.look_at.ensures.taken j))) ended)
       (λ (apart : m ≢ c.loop-number.number). c.loop-number.invariant.taken m j (omega (arith, low, apart)) ended);
+  once = λ _. subst AreJoinedOnce c.loop-number.invariant.same c.look_at.ensures.once;
   decided = λ _. subst AreDecided c.loop-number.invariant.same c.look_at.ensures.decided;
 }

@@ -1,4 +1,5 @@
 use Rattle.std.proofs.Common.{◌≡◌, ◌<◌}
+use Rattle.word_rule.specs.KeeperSteps.{AreJoinedOnce}
 use Rattle.link_keeper.specs.Joining.{AreDecided, HaveTakenAll}
 use Rattle.link_keeper.proofs.finishing.look_over.Given as goal
 
@@ -6,5 +7,6 @@ abbrev pub invariant-loop-number : goal.invariant-loop-number
 invariant-loop-number g l = record {
   same : l.keeper ≡ l.fn.keeper;
   taken : HaveTakenAll l.number l.fn.keeper;
+  once : 0 < l.number → AreJoinedOnce l.fn.keeper;
   decided : 0 < l.number → AreDecided l.fn.keeper;
 }

@@ -17,5 +17,5 @@ loop-number-preserved g c = record {
   keeps = c.settle_last.ensures.keeps;
   settled = ends_more c.loop-number.number c.args.keeper.now c.loop-number.keeper c.settle_last.new.keeper c.loop-number.invariant.settled
       (subst (λ (n : ℕ). SettlesOne n c.loop-number.keeper c.settle_last.new.keeper) c.new.ensures c.settle_last.ensures.settled)
-      (subst (λ (n : ℕ). (row_of c.settle_last.new.keeper n).pending ≡ None) c.new.ensures c.settle_last.ensures.none) c.settle_last.ensures.joined;
+      (subst (λ (n : ℕ). (row_of c.settle_last.new.keeper n).pending ≡ None) c.new.ensures c.settle_last.ensures.none);
 }

@@ -1,7 +1,6 @@
-use Rattle.std.proofs.Common.{ap, ◌∙◌}
+use Rattle.std.proofs.Common.{ap}
 use Rattle.history_state.specs.Setting.{Machine}
-use Rattle.word_rule.specs.declared.view.KeeperView.{KeeperView}
-use Rattle.link_keeper.proofs.Finished.{joined_stays, none_left, none_there}
+use Rattle.link_keeper.proofs.Finished.{none_left, none_there}
 use Rattle.link_keeper.proofs.Settled.{pending_in, settles_none_in, settles_told}
 use Rattle.link_keeper.proofs.finishing.settle_last.Goals as goal
 
@@ -22,9 +21,6 @@ returns-in-Some-clause-none g c =
     (c.accepted_object.ensures.machine g.J.Opening.setting.machine (ap (λ (m : Machine). m.verdict) c.requires.keeps.machine)) c.slots_stand.ensures.granted c.args.id c.in-Some.grant c.in-Some.ensures.pending in
     none_left c.args.keeper.now c.settle_one.new.keeper c.requires.keeps.view.kept.long c.args.id c.requires.low at.0 at.1 c.in-Some.grant c.settle_one.ensures.told.0 c.settle_one.ensures.told.2 c.requires.ended
     c.settle_one.result c.settle_one.ensures.told.1 c.settle_one.ensures.keeper
-
-pub returns-in-Some-clause-joined : goal.returns-in-Some-clause-joined
-returns-in-Some-clause-joined g c = ap (λ (k : KeeperView). k.joined) c.settle_one.ensures.keeper ∙ joined_stays c.in-Some.grant c.settle_one.result c.args.id c.args.keeper.now
 
 pub returns-in_default-clause-settled : goal.returns-in_default-clause-settled
 returns-in_default-clause-settled g c = settles_none_in g.J.Opening.setting g.J.Opening.journal c.args.state.now c.args.keeper.now c.requires.keeps c.args.id c.requires.low c.in_default.ensures.none

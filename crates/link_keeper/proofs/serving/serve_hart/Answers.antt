@@ -4,7 +4,7 @@ use Rattle.history_journal.specs.Following.{machine_of}
 use Rattle.history_state.specs.After.{after}
 use Rattle.hart_moves.specs.Lemmas.Legality.{turns_own}
 use Rattle.hart_moves.specs.Moves.{events_of}
-use Rattle.link_keeper.proofs.Left.{leaves_open}
+use Rattle.link_keeper.proofs.Left.{own_behind_settled}
 use Rattle.link_keeper.proofs.Served.{asks_idle, between_now, is_taken, journal_is, keeps_now, kept_now, may_act, may_hand_over, module_there, serves_turn}
 use Rattle.link_keeper.proofs.Shown.{came_behind, turn_shown}
 use Rattle.link_keeper.proofs.serving.serve_hart.Goals as goal
@@ -85,10 +85,10 @@ returns-clause-settled g c =
     c.id_of-id.ensures c.requires.asks c.attend.ensures.attends
     c.act-acted.new.state c.act-acted.new.hart.hart c.act-acted.new.blocks.spare c.act-acted.result.change c.act-acted.result.reply c.act-acted.ensures.acts in
     let over = c.pass-entry.ensures c.args.hart.now.hart c.act-acted.new.hart.hart c.act-acted.new.blocks.spare turn in
-    leaves_open c.args.keeper.now c.attend.new.keeper c.pass-entry.new.keeper c.args.seat.now.number (events_of turn.acts.did) c.attend.ensures.settled c.attend.ensures.attends.found over.passed.events
+    own_behind_settled c.args.seat.now.number c.args.keeper.now c.attend.new.keeper c.pass-entry.new.keeper (events_of turn.acts.did) c.attend.ensures.first over.passed.events
     (λ e there. turns_own g.J.Opening.setting c.attend.new.keeper.events c.id_of-id.result c.args.hart.now.hart c.act-acted.new.hart.hart turn.acts.did turn.acts.moves e there
     ∙ ap (λ (n : ℕ). Some n) c.id_of-id.ensures)
-    (λ m apart. over.passed.others m (λ same. apart (same ∙ c.attend.ensures.attends.number)))
+    over.passed.opens (λ m apart. over.passed.pending m (λ same. apart (same ∙ c.attend.ensures.attends.number)))
 
 pub returns-clause-longer : goal.returns-clause-longer
 returns-clause-longer g c =

@@ -1,3 +1,6 @@
+use Rattle.std.proofs.Common.{subst}
+use Rattle.word_rule.specs.declared.view.KeeperView.{KeeperView}
+use Rattle.link_keeper.specs.Settling.{SettlesOrRests}
 use Rattle.link_keeper.proofs.Shown.{begun_least, shown_on}
 use Rattle.link_keeper.proofs.keeping.Locked.begin_finals.Goals as goal
 
@@ -9,3 +12,6 @@ invariant_of-self g c = record {
   shown = shown_on c.counts_show.ensures.join g.J.Opening.setting.folders g.J.Opening.journal c.self.inside.seat.events c.begin_finals.new.keeper.events g.J.Opening.counts _
       (begun_least g.J.Opening.setting g.J.Opening.journal c.self.inside.state c.self.inside.seat c.self.invariant.keeps) c.begin_finals.ensures.opened c.self.invariant.shown;
 }
+
+pub returns-clause-settled : goal.returns-clause-settled
+returns-clause-settled g c = subst (λ (k : KeeperView). SettlesOrRests c.args.seat.now.number k c.begin_finals.new.keeper) c.self.view_is c.begin_finals.ensures.settled

@@ -1,3 +1,9 @@
+use Rattle.std.proofs.Common.{◌≡◌, ◌⊎◌, drop, length, Some, subst}
+use Rattle.std.specs.List.{Contains}
+use Rattle.history_event.specs.declared.event.Event.{Event}
+use Rattle.history_calls.specs.Laws.{hart_of}
+use Rattle.word_rule.specs.declared.view.KeeperView.{KeeperView}
+use Rattle.link_keeper.specs.Settling.{SettlesOrRests}
 use Rattle.link_keeper.proofs.Shown.{begun_least, shown_on}
 use Rattle.link_keeper.proofs.keeping.Locked.finalise.Goals as goal
 
@@ -9,3 +15,10 @@ invariant_of-self g c = record {
   shown = shown_on c.counts_show.ensures.join g.J.Opening.setting.folders g.J.Opening.journal c.self.inside.seat.events c.finalise_hart.new.keeper.events g.J.Opening.counts _
       (begun_least g.J.Opening.setting g.J.Opening.journal c.self.inside.state c.self.inside.seat c.self.invariant.keeps) c.finalise_hart.ensures.opened c.self.invariant.shown;
 }
+
+pub returns-clause-settled : goal.returns-clause-settled
+returns-clause-settled g c = subst (λ (k : KeeperView). SettlesOrRests c.args.seat.now.number k c.finalise_hart.new.keeper) c.self.view_is c.finalise_hart.ensures.settled
+
+pub returns-clause-only : goal.returns-clause-only
+returns-clause-only g c = subst (λ (k : KeeperView). (c.finalise_hart.new.keeper.events ≡ k.events)
+    ⊎ ((e : Event) × Contains (drop (length k.events) c.finalise_hart.new.keeper.events) e × (hart_of e ≡ Some 0))) c.self.view_is c.finalise_hart.ensures.only

@@ -1,7 +1,7 @@
 use Rattle.std.proofs.Common.{ℕ, List, drop, length, sym, subst, ◌∙◌}
 use Rattle.word_rule.specs.declared.view.KeeperView.{KeeperView}
 use Rattle.world_turns.specs.Counts.{ShowInCounts}
-use Rattle.link_keeper.specs.Settling.{LeavesOpen}
+use Rattle.link_keeper.specs.Settling.{SettlesFirst}
 use Rattle.link_keeper.proofs.Shown.{begun_least, more_shown}
 use Rattle.link_keeper.proofs.keeping.Locked.serve.Goals as goal
 
@@ -25,4 +25,4 @@ invariant_of-self g c = record {
 }
 
 pub returns-clause-settled : goal.returns-clause-settled
-returns-clause-settled g c = subst (λ (k : KeeperView). LeavesOpen c.args.seat.now.number k c.serve_hart.new.keeper) c.self.view_is c.serve_hart.ensures.settled
+returns-clause-settled g c = subst (λ (k : KeeperView). SettlesFirst c.args.seat.now.number k c.serve_hart.new.keeper) c.self.view_is c.serve_hart.ensures.settled
