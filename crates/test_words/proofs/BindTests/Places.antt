@@ -1,5 +1,5 @@
 -- The words of the tests are set one after the other.
-use Rattle.std.proofs.Common.{◌≡◌, ◌≢◌, ◌⊎◌, ⊎_elim, inl, inr, ℕ, zero, suc, ◌+◌, ◌*◌, ◌-◌, ◌/◌, ◌%◌, ◌≤◌, ◌<◌, Bool, true, false, cond, List, [], ◌∷◌, length, slice_index_or, None as Nothing, Result, Ok, Err, IfOk, IfErr, refl, sym, ap, subst, ◌∙◌, arith}
+use Rattle.std.proofs.Common.{◌≡◌, ◌≢◌, inl, inr, ℕ, ◌<◌, Bool, true, false, cond, [], length, None as Nothing, Result, Ok, Err, IfOk, IfErr, sym, ap, subst, ◌∙◌, arith}
 use Rattle.std.proofs.lemmas.Bool.Decides.{nat_tests}
 use mathlib.Core.Logic.{dite}
 use native.Mathlib.Decide.{ℕ_discrete}
@@ -10,7 +10,7 @@ use Rattle.word_rule.specs.declared.view.KeeperView.{KeeperView}
 use Rattle.word_rule.specs.declared.view.Kept.{Kept}
 use Rattle.word_rule.specs.declared.view.Row.{Row}
 use Rattle.word_rule.specs.Allowed.{IsSlot, LeadsTo}
-use Rattle.word_rule.specs.Layout.{doublewords, first_address, IsDoubleword, place_of}
+use Rattle.word_rule.specs.Layout.{doublewords, IsDoubleword, place_of}
 use Rattle.word_rule.specs.Views.{IsLong, kept_at, no_row, row_of, unmapped}
 use Rattle.word_rule.specs.Lemmas.Heeding.{kept_else, kept_here}
 use Rattle.word_memory.specs.Roles.{MaySet}

@@ -1,7 +1,5 @@
 -- A hart's grant of the slot is posted, and its fate comes to be known.
-use Rattle.std.proofs.Common.{◌≡◌, ◌≢◌, ◌⊎◌, ⊎_elim, inl, inr, ℕ, ◌+◌, ◌*◌, ◌≤◌, ◌<◌, Bool, true, List, [], ◌∷◌, ◌++◌, length, length-append, length-set, map, None, Some, refl, sym, ap, subst, ◌∙◌, arith}
-use mathlib.Core.Logic.{dite}
-use native.Mathlib.Decide.{ℕ_discrete}
+use Rattle.std.proofs.Common.{◌≡◌, ◌≢◌, ⊎_elim, inr, ℕ, ◌+◌, ◌<◌, Bool, true, List, [], ◌∷◌, ◌++◌, length, length-append, length-set, map, None, Some, refl, sym, ap, subst, ◌∙◌, arith}
 use Rattle.history_event.specs.declared.event.Event.{Event}
 use Rattle.history_event.specs.declared.handed.Offer.{Offer}
 use Rattle.word_rule.specs.declared.entry.Grant.{Grant}
@@ -14,7 +12,7 @@ use Rattle.word_rule.specs.declared.view.Row.{Row}
 use Rattle.word_rule.specs.Allowed.{IsPostable, IsSlot, LeadsTo}
 use Rattle.word_rule.specs.KeeperSteps.{TellsAsk, awaited_if, not_found, settled_as, with_row}
 use Rattle.word_rule.specs.Layout.{address_of, doublewords, place_of}
-use Rattle.word_rule.specs.Views.{IsLong, first_hart, kept_at, put, row_of}
+use Rattle.word_rule.specs.Views.{IsLong, first_hart, kept_at, row_of}
 use Rattle.word_rule.specs.Lemmas.Heeding.{kept_put, row_else, row_here, unseen}
 use Rattle.word_rule.specs.Lemmas.KeeperCalls.{map_long, map_row}
 use Rattle.word_rule.specs.Lemmas.Put.{put_each}

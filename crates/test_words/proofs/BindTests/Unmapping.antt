@@ -1,17 +1,15 @@
 -- The slot and its code lose their roles.
 use Rattle.std.proofs.Common.{◌≡◌, ◌≢◌, ℕ, zero, suc, ◌<◌, List, [], ◌∷◌, length, slice_index_or, None as Nothing, Some, Result, Ok, Err, IfOk, IfErr, sym, ap, ◌∙◌, refl, arith}
-use mathlib.Core.Logic.{dite}
-use native.Mathlib.Decide.{ℕ_discrete}
 use Rattle.ld_base.specs.declared.fault.Shown.{Shown}
 use Rattle.ld_base.specs.declared.linking.Role.TheVariants.{None as NoRole, Rx, Rw, Slot as SlotRole}
 use Rattle.word_rule.specs.declared.view.KeeperView.{KeeperView}
 use Rattle.word_rule.specs.declared.view.Kept.{Kept}
 use Rattle.word_rule.specs.Allowed.{IsSlot}
+use Rattle.word_rule.specs.KeeperSteps.{retired}
 use Rattle.word_rule.specs.Layout.{IsDoubleword, place_of}
 use Rattle.word_rule.specs.Views.{kept_at, row_of, unmapped}
 use Rattle.word_rule.specs.Lemmas.Heeding.{kept_else, kept_here}
 use Rattle.word_memory.specs.Roles.{MayRetire}
-use Rattle.word_access.specs.WordKeeping.Keeping.{retired}
 use Rattle.test_words.specs.BindTests.Stocked.{IsStocked, IsUnmapped, IsUnslotted}
 use Rattle.test_words.proofs.BindTests.Places.{first_place, lazy_place, low_place, second_place, slot_place}
 

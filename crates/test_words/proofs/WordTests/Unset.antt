@@ -1,5 +1,5 @@
 -- Doublewords get their roles one after the other.
-use Rattle.std.proofs.Common.{◌≡◌, ◌≢◌, inl, ℕ, ◌+◌, ◌*◌, ◌-◌, ◌/◌, ◌%◌, ◌≤◌, ◌<◌, Bool, false, cond, length, None as Nothing, Result, Ok, Err, IfOk, IfErr, refl, sym, ap, subst, ◌∙◌, arith}
+use Rattle.std.proofs.Common.{◌≡◌, ◌≢◌, inl, ℕ, ◌+◌, ◌*◌, ◌<◌, false, cond, length, None as Nothing, Result, Ok, Err, IfOk, IfErr, refl, sym, ap, subst, ◌∙◌, arith}
 use Rattle.std.proofs.lemmas.Bool.Decides.{nat_tests}
 use Rattle.ld_base.specs.declared.fault.Shown.{Shown}
 use Rattle.ld_base.specs.declared.fault.Shown.TheVariants.{Locked, Initialising, Closing, OpenGrant}
@@ -7,7 +7,7 @@ use Rattle.ld_base.specs.declared.linking.Role.{Role}
 use Rattle.ld_base.specs.declared.linking.Role.TheVariants.{None as NoRole, Slot as SlotRole}
 use Rattle.word_rule.specs.declared.view.KeeperView.{KeeperView}
 use Rattle.word_rule.specs.declared.view.Kept.{Kept}
-use Rattle.word_rule.specs.Layout.{doublewords, first_address, IsDoubleword, place_of}
+use Rattle.word_rule.specs.Layout.{doublewords, place_of}
 use Rattle.word_rule.specs.Views.{IsLong, kept_at, unmapped}
 use Rattle.word_memory.specs.Roles.{MaySet}
 use Rattle.word_memory.specs.WordSeats.Making.{IsMade, in_linker_page, linker_page, linker_word}

@@ -2,11 +2,12 @@
 
 ghost use Rattle.std.specs.Prelude.{◌≡◌, ◌≢◌, ℕ, None, IfOk, IfSome};
 ghost use Rattle.ld_base.specs.declared.linking.Role.TheVariants.{None as NoRole, Rw};
+ghost use Rattle.word_rule.specs.KeeperSteps.{retired};
 ghost use Rattle.word_rule.specs.Layout.{place_of};
 ghost use Rattle.word_rule.specs.Views.{IsLong, kept_at, row_of};
 ghost use Rattle.word_memory.specs.Roles.{MayRetire, MaySet};
 ghost use Rattle.word_memory.specs.WordSeats.Making.{IsMade};
-ghost use Rattle.word_access.specs.WordKeeping.Keeping.{retired, set_as};
+ghost use Rattle.word_access.specs.WordKeeping.Keeping.{set_as};
 ghost use Rattle.test_words.specs.BindTests.Stocked.{IsNew, IsReady, IsStocked, IsUnmapped, IsUnslotted};
 
 use ld_base::Role;
