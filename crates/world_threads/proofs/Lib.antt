@@ -1,6 +1,7 @@
 mod Comes
 mod Counted
 mod Finished
+mod Journal
 mod Kept
 mod LastEnds
 mod Memory

@@ -18,6 +18,7 @@ fresh_at w begun harts k l made count is = subst (IsFresh w begun) (sym is) (rec
   rows = made.rows;
   harts = made.harts_are ∙ sym count;
   events = refl;
+  none_retired = made.none_retired;
 })
 
 pub low_generation : (harts n : ℕ) (begun : List Event) (k l : KeeperView) → IsMade k 512 harts → l ≡ record k { events = begun } → l.generation ≤ n

@@ -1,6 +1,6 @@
 -- A run is over: what its harts' ways and the keeper's last word come to.
-use Rattle.std.proofs.Common.{◌≡◌, ◌≢◌, ◌⊎◌, ⊎_elim, inl, inr, ℕ, zero, suc, ◌+◌, ◌≤◌, ◌<◌, ◌&&◌, take, List, [], ◌∷◌, ◌++◌, length, map, Option, Some, None, refl, sym, ap, subst, ◌∙◌, append_assoc, arith}
-use Rattle.std.specs.Prelude.{IsTrue}
+use Rattle.std.proofs.Common.{◌≡◌, ◌⊎◌, ⊎_elim, inl, inr, ℕ, zero, suc, ◌+◌, ◌≤◌, ◌<◌, ◌&&◌, take, List, [], ◌∷◌, ◌++◌, length, map, Option, Some, None, refl, sym, ap, subst, ◌∙◌, append_assoc, arith}
+use Rattle.std.proofs.Math.Seq.{take-append_seam}
 use Rattle.std.proofs.lemmas.List.{length-map}
 use Rattle.std.specs.Prelude.{nat_le}
 use Rattle.std.specs.List.{Contains, list_all, slice_get}
@@ -12,35 +12,35 @@ use Rattle.history_event.specs.declared.state.Ending.{Ending}
 use Rattle.history_calls.specs.declared.link_served.startup.Setup.{Setup}
 use Rattle.history_calls.specs.declared.link_served.startup.Started.{Started}
 use Rattle.history_calls.specs.Laws.{hart_of}
+use Rattle.history_calls.specs.RunJournal.{AreByHarts, CountsEachHart, IsRunJournal, RunJournalsGrow, RunJournalsStart}
 use Rattle.history_calls.specs.Startup.{Starts}
 use Rattle.history_state.specs.After.{after}
+use Rattle.history_state.specs.Allowed.{MayEnd}
 use Rattle.history_state.specs.Lemmas.Lists.{at_in, first_or_later, here, later, none_in}
 use Rattle.history_state.specs.Legal.{Legal, Whole}
-use Rattle.history_state.specs.Setting.{Setting, exited, have_exited}
-use Rattle.hart_moves.specs.Follows.{AreOthers, FollowsToItsEnd, HasNone}
+use Rattle.history_state.specs.Setting.{Setting, exited}
+use Rattle.hart_fits.specs.Over.{RunningIsNotOver, RunsYet}
+use Rattle.hart_moves.specs.Follows.{AreOthers, HasNone}
 use Rattle.hart_moves.specs.Laws.{EndedStays}
-use Rattle.hart_moves.specs.Moves.{all_finis}
-use Rattle.hart_moves.specs.Starting.{HartStart, IsStartOf}
 use Rattle.hart_moves.specs.TurnEvents.Laws.{TurnsAppend}
 use Rattle.hart_threads.specs.Laws.{WaysStay}
 use Rattle.hart_trails.specs.Ends.{EndIsLast, StartIsFresh}
 use Rattle.hart_trails.specs.Laws.{EndsFollow, MarksFollow}
-use Rattle.hart_trails.specs.Owners.{AreOfHarts}
 use Rattle.hart_trails.specs.Trails.{LeavesToItsEnd}
-use Rattle.kept_words.specs.Kept.{AreKept, IsFateEvent}
+use Rattle.kept_words.specs.Kept.{AreKept}
 use Rattle.kept_words.specs.Over.{IsFinished, IsOver}
 use Rattle.link_keeper.specs.Finishing.{IsExchangeOf, RunIsOver, TrailIsClosed, knows}
-use Rattle.link_keeper.specs.Keeping.{FirstGoesOn, WasOver}
-use Rattle.trace_text.specs.RunTexts.Ends.{AreLastEnds, last_end}
+use Rattle.link_keeper.specs.Keeping.{FirstGoesOn}
+use Rattle.trace_text.specs.RunTexts.Ends.{last_end}
 use Rattle.trace_text.specs.declared.run_texts.record.RunRecord.{RunRecord}
-use Rattle.word_rule.specs.declared.view.Fate.{Fate}
 use Rattle.word_rule.specs.declared.view.HartView.{HartView}
 use Rattle.word_rule.specs.declared.view.KeeperView.{KeeperView}
-use Rattle.word_rule.specs.Views.{BeginsWith}
 use Rattle.world_threads.specs.Running.{HaveRun, WayOf}
 use Rattle.world_threads.specs.Threaded.{HartRan, IsThreaded}
 use Rattle.world_threads.proofs.Finished.{finishes, nobodys_end, nobodys_leave}
+use Rattle.world_threads.proofs.Journal.{are_by_harts, may as may_end}
 use Rattle.world_threads.proofs.LastEnds.{last_end_is}
+use Rattle.world_threads.proofs.Started.{none_ended}
 
 -- ---- lists
 
@@ -111,6 +111,9 @@ pub record Laws : Type 0 where
   pub marks : MarksFollow
   pub last : EndIsLast
   pub fresh : StartIsFresh
+  pub running : RunningIsNotOver
+  pub start : RunJournalsStart
+  pub grow : RunJournalsGrow
 
 -- what is known where the run is over
 pub record IsOverAt (w : Setting) (setup : Setup) (past : List Event) (started : Started) (before journal : List Event) (ends : List HartEnd) (seats : List HartView) : Type 0 where
@@ -219,39 +222,60 @@ module _ (laws : Laws) (w : Setting) (setup : Setup) (past : List Event) (starte
       let start = (of 0 reason.0 j.0 reason.1 j.1).start in
       finishes laws.append laws.ended w journal start reason.0 goes_on (laws.follow w journal start 0 reason.0 j.0.trail (way_on 0 reason.0 j.0 reason.1 j.1)) finals
 
-  pub threaded : (left : RunRecord) (trails : KeeperView) (earlier : List HartView) → left.journal.events ≡ journal → left.ends ≡ ends → trails.events ≡ journal
-      → trails.joined ≡ earlier ++ map (knows before) seats → AreKept w past trails → IsOver trails → Starts w setup past started → IsThreaded w setup left trails
-  threaded left trails earlier events_are ends_are counted joined kept known starts = record {
-    past = past;
+  -- before each of its events its hart may end
+  may : Starts w setup past started → (h k : ℕ) (e : Event) → h < w.machine.harts → length past ≤ k → slice_get journal k ≡ Some e → hart_of e ≡ Some h → MayEnd w (after (take k journal)) h
+  may starts h k e less low there is =
+      let seats_are = x.run.all in
+      let ends_are = x.run.all_end in
+      let j = seat_at seats h (omega (arith, less, seats_are)) in
+      let reason = end_at ends h (omega (arith, less, ends_are)) in
+      let way = of h reason.0 j.0 reason.1 j.1 in
+      may_end laws.running w journal x.over.legal x.over.own goes_on h less way.start reason.0 (laws.fresh setup.fuel past started h way.start way.sets_off).runs
+      (subst (λ (es : List Event). RunsYet h es) (sym (ap (λ (n : ℕ). take n journal) way.sets_off.from ∙ ap (take (length past)) x.over.begins.1 ∙ take-append_seam past x.over.begins.0))
+      (λ there. none_in h (subst (λ (es : List Ending). Contains (map (λ e. e.hart) es) h) (none_ended w setup past started starts) there)))
+      (laws.follow w journal way.start h reason.0 j.0.trail (way_on h reason.0 j.0 reason.1 j.1))
+      k e (let from : way.start.from ≡ length past = way.sets_off.from in omega (arith, from, low)) there is
+
+  -- so startup's events and those are the journal of a run
+  by_harts : Starts w setup past started → IsRunJournal w setup (past ++ x.over.begins.0)
+  by_harts starts = laws.grow w setup past x.over.begins.0 (laws.start w setup past started starts) (are_by_harts w past x.over.begins.0 journal x.over.begins.1 x.over.own (may starts))
+
+  abbrev by_of : Starts w setup past started → (all : List Event) → all ≡ journal → IsRunJournal w setup all
+  by_of starts all same = record {
+    startup = past;
     started = started;
     starts = starts;
-    more = x.over.begins.0;
-    begins = events_are ∙ x.over.begins.1;
+    others = x.over.begins.0;
+    are = same ∙ x.over.begins.1;
+    by = subst (AreByHarts w []) (sym (same ∙ x.over.begins.1)) (by_harts starts).by;
+    counts = λ k. subst (λ (es : List Event). CountsEachHart w (after (take k es))) (sym (same ∙ x.over.begins.1)) ((by_harts starts).counts k);
+  }
+
+  pub threaded : (left : RunRecord) (trails : KeeperView) → left.journal.events ≡ journal → left.ends ≡ ends → trails.events ≡ journal
+      → trails.joined ≡ map (knows before) seats → AreKept w past trails → IsOver trails → Starts w setup past started → IsThreaded w setup left trails
+  threaded left trails events_are ends_are counted joined kept known starts = record {
+    by = by_of starts left.journal.events events_are;
     legal = subst (Legal w) (sym events_are) x.over.legal;
     whole = subst (Whole w) (sym events_are) (x.over.whole finished);
-    own = subst (AreOfHarts w) (sym events_are) x.over.own;
     counted = counted ∙ sym events_are;
     kept = kept;
     over = known;
-    earlier = earlier;
-    harts = map (knows before) seats;
-    joined = joined;
     last = record {
       all = ap length ends_are ∙ x.run.all_end;
       each = λ h reason at.
           ap (λ (es : List Event). last_end h (after es).endings) events_are ∙ last_is h reason (subst (λ (rs : List HartEnd). slice_get rs h ≡ Some reason) ends_are at);
     };
-    all_told = length-map seats (knows before) ∙ x.run.all;
+    all_told = ap length joined ∙ length-map seats (knows before) ∙ x.run.all;
     each = λ h reason hart at_end at.
-        let got = from_map (knows before) seats h hart at in
+        let got = from_map (knows before) seats h hart (subst (λ (js : List HartView). slice_get js h ≡ Some hart) joined at) in
         subst (λ (es : List Event). HartRan w setup past started es h reason hart) (sym events_are)
         (subst (HartRan w setup past started journal h reason) got.2 (hart_ran h reason got.0 (subst (λ (rs : List HartEnd). slice_get rs h ≡ Some reason) ends_are at_end) got.1));
     fates = λ number f e there is.
         let of_seat = x.over.fates number f e (subst (λ (es : List Event). Contains es e) events_are there) is in
-        subst (λ (es : List Event). IsExchangeOf es (map (knows before) seats) number f e) (sym events_are) (record {
+        subst (λ (es : List Event). IsExchangeOf es trails.joined number f e) (sym events_are) (record {
           hart = of_seat.hart;
           view = knows before of_seat.view;
-          there = in_map (knows before) seats of_seat.hart of_seat.view of_seat.there;
+          there = ap (λ (js : List HartView). slice_get js of_seat.hart) joined ∙ in_map (knows before) seats of_seat.hart of_seat.view of_seat.there;
           grant = of_seat.grant;
           event = of_seat.event;
           number_is = of_seat.number_is;

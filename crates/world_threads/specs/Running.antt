@@ -1,5 +1,5 @@
 -- A run on threads, from where its harts are set off to where they have ended: for the code of this crate alone.
-use Rattle.std.specs.Prelude.{◌≡◌, ℕ, ◌≤◌, ◌<◌, false, List, [], length, drop, Some, Result, Ok, Err, All}
+use Rattle.std.specs.Prelude.{◌≡◌, ℕ, ◌<◌, false, List, length, drop, Some, Result, Ok, Err, All}
 use Rattle.std.specs.List.{slice_get}
 use Rattle.history_event.specs.declared.event.Event.{Event}
 use Rattle.history_event.specs.declared.handed.HartEntry.{HartEntry}
@@ -57,6 +57,7 @@ pub record HaveRun (w : Setting) (setup : Setup) (past : List Event) (started : 
 -- a run that has started comes to its end, while its library's counts go on; or memory is wanted, and they stay
 abbrev pub ComesOf : Setting → Setup → List Event → Counts → Result Ran StartFault → Counts → Type 0
 ComesOf w setup begun first (Ok ran) last =
-    IsThreaded w setup ran.left ran.trails × BeginsWith ran.left.journal.events begun × ShowInCounts w.folders (drop (length begun) ran.left.journal.events) first last × Rise first last
+    IsThreaded w setup ran.left ran.trails × BeginsWith ran.left.journal.events begun
+    × ShowInCounts w.folders (drop (length begun) ran.left.journal.events) first last × Rise first last
 ComesOf w setup begun first (Err (starts.Refused fault journal)) last = ⊥
 ComesOf w setup begun first (Err starts.Memory) last = last ≡ first

@@ -1,5 +1,5 @@
 -- What a run on threads leaves. For whoever prints it, and for whoever judges its harts' trails.
-use Rattle.std.specs.Prelude.{◌≡◌, ℕ, List, [], ◌++◌, length, Some, Result, Ok, Err, Contains}
+use Rattle.std.specs.Prelude.{◌≡◌, ℕ, List, [], length, Some, Result, Ok, Err, Contains}
 use Rattle.std.specs.List.{slice_get}
 use Rattle.history_event.specs.declared.event.Event.{Event}
 use Rattle.history_event.specs.declared.hart_end.HartEnd.{HartEnd}
@@ -7,12 +7,11 @@ use Rattle.history_calls.specs.declared.link_served.startup.Setup.{Setup}
 use Rattle.history_calls.specs.declared.link_served.startup.StartFault.{StartFault}
 use Rattle.history_calls.specs.declared.link_served.startup.StartFault.TheVariants as starts
 use Rattle.history_calls.specs.declared.link_served.startup.Started.{Started}
-use Rattle.history_calls.specs.Startup.{Starts}
+use Rattle.history_calls.specs.RunJournal.{IsRunJournal}
 use Rattle.history_state.specs.After.{after}
 use Rattle.history_state.specs.Legal.{Legal, Whole}
 use Rattle.history_state.specs.Setting.{Setting}
 use Rattle.hart_moves.specs.Starting.{HartStart, IsStartOf}
-use Rattle.hart_trails.specs.Owners.{AreOfHarts}
 use Rattle.hart_trails.specs.Trails.{LeavesToItsEnd}
 use Rattle.kept_words.specs.Kept.{AreKept, IsFateEvent}
 use Rattle.kept_words.specs.Over.{IsOver}
@@ -46,33 +45,25 @@ left_events (Ok ran) = ran.left.journal.events
 left_events (Err (starts.Refused fault journal)) = journal.events
 left_events (Err starts.Memory) = []
 
--- a run that started and is over. The harts' last views stand at the end of the keeper's, in the order of their numbers
+-- a run that started and is over: the keeper has its harts' last views, in the order of their numbers, and no others
 pub record IsThreaded (w : Setting) (setup : Setup) (left : RunRecord) (trails : KeeperView) : Type 0 where
-  pub past : List Event
-  pub started : Started
-  pub starts : Starts w setup past started
-  pub more : List Event
-  pub begins : left.journal.events ≡ past ++ more
+  -- its events are startup's, and then those of harts that there are and that hadn't ended
+  pub by : IsRunJournal w setup left.journal.events
   -- one legal history: no grant is open, what a lost grant of a mapped object saw is its slot's value, and where each hart ended once, by exit,
   -- what was initialised was finalised
   pub legal : Legal w left.journal.events
   pub whole : Whole w left.journal.events
-  -- each event is of a hart that there is, or of none
-  pub own : AreOfHarts w left.journal.events
   -- the keeper counted these very events, and memory is what they left: the words of each image that is there, and of no other
   pub counted : trails.events ≡ left.journal.events
-  pub kept : AreKept w past trails
+  pub kept : AreKept w by.startup trails
   -- what became of each grant is known, and what each slot that isn't lazy any more holds is the value of one that was bound
   pub over : IsOver trails
   -- each hart has an end, which is the last one that the journal has of it
   pub last : AreLastEnds w.machine.harts (after left.journal.events).endings left.ends
   -- and a trail that leads there
-  pub earlier : List HartView
-  pub harts : List HartView
-  pub joined : trails.joined ≡ earlier ++ harts
-  pub all_told : length harts ≡ w.machine.harts
-  pub each : (h : ℕ) (reason : HartEnd) (hart : HartView) → slice_get left.ends h ≡ Some reason → slice_get harts h ≡ Some hart
-      → HartRan w setup past started left.journal.events h reason hart
+  pub all_told : length trails.joined ≡ w.machine.harts
+  pub each : (h : ℕ) (reason : HartEnd) (hart : HartView) → slice_get left.ends h ≡ Some reason → slice_get trails.joined h ≡ Some hart
+      → HartRan w setup by.startup by.started left.journal.events h reason hart
   -- each grant that was bound is one that an exchange in its hart's trail won, and each that was lost one that it lost, to the word that its event shows
   pub fates : (number : ℕ) (f : Fate) (e : Event) → Contains left.journal.events e → IsFateEvent number f e
-      → IsExchangeOf left.journal.events harts number f e
+      → IsExchangeOf left.journal.events trails.joined number f e

@@ -2,7 +2,6 @@ use Rattle.std.proofs.Common.{sym, ap, subst, ◌∙◌}
 use Rattle.history_event.specs.declared.journal.Journal.{Journal}
 use Rattle.kept_words.specs.Kept.{AreKept}
 use Rattle.kept_words.specs.Over.{IsOver}
-use Rattle.trace_text.specs.declared.run_texts.record.RunRecord.{RunRecord}
 use Rattle.word_rule.specs.declared.view.KeeperView.{KeeperView}
 use Rattle.world_threads.proofs.Over.{threaded}
 use Rattle.world_threads.proofs.run.left_by.Goals as goal
@@ -18,10 +17,13 @@ returns-clause-threaded g c = λ setup started starts have.
       marks = c.blocks_are_asked_once.ensures;
       last = c.trails_end.ensures.last;
       fresh = c.trails_end.ensures.start;
+      running = c.running_is_not_over.ensures.runs;
+      start = c.run_journals_grow.ensures.start;
+      grow = c.run_journals_grow.ensures.grow;
     })
     g.J.Opening.setting setup g.J.Opening.journal started c.args.keeper.events c.finish.new.keeper.events c.args.ends c.args.seats.items
     (record { over = c.finish.ensures.over; last = c.requires.keeps.view.last; some = c.requires.some; run = have })
-    c.new.result c.into_trails.result c.args.keeper.joined
+    c.new.result c.into_trails.result
     (ap (λ (j : Journal). j.events) c.new.ensures.journal ∙ c.into_journal.ensures.events ∙ c.finish.ensures.state)
     c.new.ensures.ends
     (ap (λ (k : KeeperView). k.events) c.into_trails.ensures)
