@@ -1,4 +1,4 @@
--- What came of calls of the linker, as lines have it, read back.
+-- What came of calls of the linker, as lines have it, read back. For the code of this crate alone.
 use Rattle.std.specs.Prelude.{ℕ, ◌^◌, if◌then◌else◌, codes, List, [], ◌∷◌, Option, Some, None, option_map}
 use Rattle.std.specs.Str.{bytes_eq}
 use Rattle.history_event.specs.declared.event.CloseAnswer.{CloseAnswer}

@@ -1,4 +1,4 @@
--- Ends of harts as lines have them, read back.
+-- Ends of harts as lines have them, read back. For the code of this crate alone.
 use Rattle.std.specs.Prelude.{ℕ, ◌^◌, if◌then◌else◌, codes, List, [], ◌∷◌, Option, Some, None, option_map}
 use Rattle.std.specs.Str.{bytes_eq}
 use Rattle.history_event.specs.declared.hart_end.HartEnd.{HartEnd}

@@ -1,4 +1,4 @@
--- Lines of events, read back.
+-- Lines of events, read back. For the code of this crate alone.
 use Rattle.std.specs.Prelude.{ℕ, ◌^◌, ◌==◌, if◌then◌else◌, codes, length, List, [], ◌∷◌, Option, Some, None, option_map}
 use Rattle.std.specs.Str.{bytes_eq}
 use Rattle.ld_base.specs.declared.fault.DlFault.{DlFault}

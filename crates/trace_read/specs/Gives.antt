@@ -1,4 +1,4 @@
--- What a reader answers, beside what its bytes mean.
+-- What a reader answers, beside what its bytes mean. For the code of this crate alone.
 use Rattle.std.specs.Prelude.{◌≡◌, Option, Some, None, Result, Ok, Err}
 use Rattle.trace_read.specs.declared.fault.TraceFault.{TraceFault}
 use Rattle.trace_read.specs.declared.fault.TraceFault.TheVariants as faults

@@ -1,4 +1,4 @@
--- Lists as lines have them, read back.
+-- Lists as lines have them, read back. For the code of this crate alone.
 use Rattle.std.specs.Prelude.{ℕ, ◌==◌, ◌^◌, if◌then◌else◌, List, [], ◌∷◌, Option, Some, None, option_map}
 use Rattle.std.specs.List.{slice_split}
 use Rattle.std.specs.Str.{bytes_eq}

@@ -1,4 +1,4 @@
--- Names as lines have them, read back.
+-- Names as lines have them, read back. For the code of this crate alone.
 use Rattle.std.specs.Prelude.{ℕ, ◌+◌, ◌*◌, ◌==◌, ◌||◌, if◌then◌else◌, length, List, [], ◌∷◌, Option, Some, None, option_map}
 use Rattle.std.specs.Str.{bytes_eq}
 use Rattle.ld_base.specs.Text.{is_plain}

@@ -1,4 +1,4 @@
--- Numbers as lines have them: digits without a zero before them.
+-- Numbers as lines have them: digits without a zero before them. For the code of this crate alone.
 use Rattle.std.specs.Prelude.{ℕ, ◌+◌, ◌-◌, ◌*◌, ◌^◌, ◌==◌, nat_lt, if◌then◌else◌, codes, List, [], ◌∷◌, Option, Some, None}
 use Rattle.std.specs.Int.{is_in_range}
 use Rattle.trace_read.specs.Pieces.{◌>>=◌, labelled, pair}

@@ -1,4 +1,4 @@
--- Pieces of a line.
+-- Pieces of a line. For the code of this crate alone.
 use Rattle.std.specs.Prelude.{ℕ, Bool, ◌==◌, ◌+◌, if◌then◌else◌, List, [], ◌∷◌, length, take, drop, Option, Some, None}
 use Rattle.std.specs.Str.{bytes_eq}
 

@@ -1,4 +1,4 @@
--- A line, read back.
+-- A line, read back. For the code of this crate alone.
 use Rattle.std.specs.Prelude.{ℕ, ◌-◌, if◌then◌else◌, length, take, drop, List, [], ◌∷◌, Option, None}
 use Rattle.std.specs.Str.{bytes_eq}
 use Rattle.history_event.specs.declared.event_line.EventLine.{EventLine}

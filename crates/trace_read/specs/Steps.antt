@@ -1,4 +1,4 @@
--- Events whose lines have numbers alone, read back.
+-- Events whose lines have numbers alone, read back. For the code of this crate alone.
 use Rattle.std.specs.Prelude.{ℕ, ◌^◌, if◌then◌else◌, codes, List, [], ◌∷◌, Option, Some, None, option_map}
 use Rattle.std.specs.Str.{bytes_eq}
 use Rattle.ld_base.specs.declared.linking.Choice.{Choice}
