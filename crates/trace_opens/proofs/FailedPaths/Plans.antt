@@ -1,8 +1,7 @@
 -- Plans over an empty file.
-use Rattle.std.proofs.Common.{◌≡◌, ◌≢◌, ◌⊎◌, inl, inr, ℕ, Bool, true, false, List, [], ◌∷◌, Option, Some, Result, Ok, Err, refl, sym, ap, subst, ◌∙◌}
+use Rattle.std.proofs.Common.{◌≡◌, ◌⊎◌, inl, inr, ℕ, Bool, true, false, List, [], ◌∷◌, Option, Some, None, Result, Ok, Err, refl, sym, ap, subst}
 use Rattle.std.specs.Prelude.{IfErr, IfOk, IsTrue, if◌then◌else◌}
 use Rattle.std.specs.Option.{option_map}
-use Rattle.ld_base.specs.declared.fault.DlFault.{DlFault}
 use Rattle.ld_base.specs.declared.fault.DlFault.TheVariants as faults
 use Rattle.ld_base.specs.declared.linking.File.{File}
 use Rattle.ld_base.specs.declared.linking.Loaded.{Loaded}
@@ -21,7 +20,7 @@ use Rattle.history_state.specs.Setting.{Setting}
 use Rattle.history_state.specs.State.{State}
 use Rattle.history_calls.specs.Answer.{Answer, again, loading, refused, returns}
 use Rattle.history_calls.specs.Call as call
-use Rattle.history_calls.specs.Gives.{EventAnswers, Gives}
+use Rattle.history_calls.specs.Gives.{EventAnswers}
 use Rattle.history_calls.specs.Gives.EventAnswers.{is_absent, is_loaded, is_not_opened, is_there}
 use Rattle.history_calls.specs.Gives.Gives.{by_event, to_again}
 use Rattle.history_calls.specs.Laws.{is_chance}
@@ -29,15 +28,18 @@ use Rattle.history_calls.specs.Startup.{program_ask}
 use Rattle.history_calls.specs.declared.link_served.startup.Setup.{Setup}
 use Rattle.history_calls.specs.Waiting.Shows.{by_load}
 use Rattle.link_open_plan.specs.Before.{IsBefore}
-use Rattle.link_open_plan.specs.Planned.{IsPlanned, IsUnopened, PlansNew}
+use Rattle.link_open_plan.specs.Planned.{IsPlanned, IsUnopened, PlansNew, fault_in, refusal_in}
 use Rattle.link_open_plan.specs.declared.before.Before.{Before}
 use Rattle.link_open_plan.specs.declared.planning.NewObjects.{NewObjects}
 use Rattle.link_open_plan.specs.declared.planning.Planned.{Planned}
 use Rattle.link_open_plan.specs.declared.planning.Planned.TheVariants as plans
 use Rattle.link_open_plan.specs.declared.planning.Unopened.{Unopened}
 use Rattle.link_open_plan.specs.declared.planning.Unopened.TheVariants as unopened
-use Rattle.trace_opens.specs.FailedPaths.Emptied.{emptied, first_rule, is_broken, with_empty}
+use Rattle.trace_opens.specs.FailedPaths.Emptied.{FailsAnyway, RefusesEmpty, emptied, first_rule, is_broken, with_empty}
 use Rattle.trace_opens.specs.FailedPaths.Row.{GivesOther, IsSure, IsSureOf}
+use Rattle.trace_opens.specs.OpeningRows.Expected.{MayFailSo}
+use Rattle.trace_opens.specs.declared.failed_paths.judging.Doubt.{Doubt}
+use Rattle.trace_opens.specs.declared.failed_paths.judging.Doubt.TheVariants as doubts
 
 abbrev came_of : ℕ → List Loaded → Answer
 came_of root [] = returns root
@@ -158,6 +160,45 @@ before_emptied w past ask name id path b folders files before = record {
   statics = before.statics;
   binds = before.binds;
 }
+
+-- ---- a read that fails
+
+-- the plan's failed read is the refusal that may come
+pub fails_so : {X : Type 0} (w : Setting) (past : List Event) (hart : ℕ) (ask : OpenAsk) (r : Result X Unopened) → MayAsk (after past) hart ask → IfErr r (IsUnopened w (after past) hart ask)
+    → (doubt : Doubt) → ((failed : List ℕ) → doubt ≡ doubts.ReadFault failed → refusal_in r ≡ Some (faults.ReadFault failed)) → MayFailSo w past hart ask doubt
+fails_so w past hart ask r may why doubts.Memory is = tt
+fails_so w past hart ask (Ok plan) may why (doubts.ReadFault path) is = let d : None ≡ Some (faults.ReadFault path) = is path refl in absurd cc
+fails_so w past hart ask (Err (unopened.Wait shown)) may why (doubts.ReadFault path) is = let d : None ≡ Some (faults.ReadFault path) = is path refl in absurd cc
+fails_so w past hart ask (Err unopened.Memory) may why (doubts.ReadFault path) is = let d : None ≡ Some (faults.ReadFault path) = is path refl in absurd cc
+fails_so w past hart ask (Err (unopened.Refused fault)) may why (doubts.ReadFault path) is =
+    let same : fault ≡ faults.ReadFault path = (let d : Some fault ≡ Some (faults.ReadFault path) = is path refl in cc) in
+    record { may = may; refuses = subst (Refuses w (after past) hart ask) same why }
+
+pub fails_err : (w : Setting) (past : List Event) (hart : ℕ) (ask : OpenAsk) (why : Unopened) → MayAsk (after past) hart ask → IsUnopened w (after past) hart ask why
+    → (doubt : Doubt) → ((failed : List ℕ) → doubt ≡ doubts.ReadFault failed → fault_in why ≡ Some (faults.ReadFault failed)) → MayFailSo w past hart ask doubt
+fails_err w past hart ask why may unopened doubt is = fails_so {X = Planned} w past hart ask (Err why) may unopened doubt is
+
+pub anyway_so : FailsAnyway → (w : Setting) (past : List Event) (hart : ℕ) (ask : OpenAsk) (path : List ℕ) → RefusesEmpty w first_rule → (doubt : Doubt)
+    → MayFailSo (with_empty w path) past hart ask doubt → MayFailSo w past hart ask doubt
+anyway_so law w past hart ask path refuses_it (doubts.ReadFault failed) may = law w past hart ask path first_rule failed refuses_it may
+anyway_so law w past hart ask path refuses_it doubts.Memory may = tt
+
+-- ---- results
+
+pub if_err : {A E : Type 0} {P Q : E → Type 0} (r : Result A E) → ((e : E) → P e → Q e) → IfErr r P → IfErr r Q
+if_err (Ok a) f p = tt
+if_err (Err e) f p = f e p
+
+-- the doubt is that of another result, or want of memory
+pub err_of : {A B : Type 0} (P : Doubt → Type 0) → P doubts.Memory → (before : Result A Doubt) (r : Result B Doubt)
+    → IfErr r (λ doubt. (failed : List ℕ) → doubt ≡ doubts.ReadFault failed → before ≡ Err (doubts.ReadFault failed)) → IfErr before P → IfErr r P
+err_of P memory before (Ok b) is p = tt
+err_of P memory before (Err doubts.Memory) is p = memory
+err_of P memory before (Err (doubts.ReadFault path)) is p = subst (λ x. IfErr x P) (is path refl) p
+
+pub err_memory : {A : Type 0} (P : Doubt → Type 0) → P doubts.Memory → (r : Result A Doubt) → IfErr r (λ doubt. doubt ≡ doubts.Memory) → IfErr r P
+err_memory P memory (Ok a) is = tt
+err_memory P memory (Err doubt) is = subst P (sym is) memory
 
 pub if_ok : {A E : Type 0} {P Q : A → Type 0} (r : Result A E) → ((a : A) → P a → Q a) → IfOk r P → IfOk r Q
 if_ok (Ok a) f p = f a p

@@ -9,11 +9,10 @@ use Rattle.history_event.specs.declared.event.Event.{Event}
 use Rattle.history_event.specs.declared.event.OpenAsk.{OpenAsk}
 use Rattle.history_state.specs.After.{after}
 use Rattle.history_state.specs.Allowed.{Allowed}
-use Rattle.history_state.specs.Opening.{IsRefused, IsStopped, Refuses, refused, there}
+use Rattle.history_state.specs.Opening.{IsStopped, Refuses, refused, there}
 use Rattle.history_state.specs.Opening.Refuses.{name_too_long, bad_flags, bad_namespace, namespaces_full, stopped, lacks_version, has_no_pages, unrelocated}
 use Rattle.history_state.specs.Setting.{Setting}
 use Rattle.history_state.specs.State.{State}
-use Rattle.history_state.specs.Step.{binds, loaded, seen_after}
 use Rattle.history_calls.specs.Answer.{Answer}
 use Rattle.history_calls.specs.Answer as came
 use Rattle.history_calls.specs.Call.{opens}
@@ -23,7 +22,7 @@ use Rattle.history_calls.specs.Gives.Gives.{by_event}
 use Rattle.history_calls.specs.Laws.{OneOpening, is_chance}
 use Rattle.trace_opens.specs.FailedPaths.Emptied.{RefusesEmpty, emptied, is_broken, reads_badly, with_empty}
 use Rattle.trace_opens.proofs.FailedPaths.Others.{IsOther, relocation_is, version_is}
-use Rattle.trace_opens.proofs.FailedPaths.Stopped.{LoadLaws, emptied_fails, fails_as_emptied}
+use Rattle.trace_opens.proofs.FailedPaths.Stopped.{LoadLaws, emptied_fails, fails_anyway, fails_as_emptied}
 
 -- what stops a load, where a refusal is of a file
 pub record IsStop (w : Setting) (s : State) (hart : ℕ) (ask : OpenAsk) (fault : DlFault) : Type 0 where
@@ -51,6 +50,12 @@ pub emptied_at : LoadLaws → (w : Setting) (past : List Event) (hart : ℕ) (as
 emptied_at laws w past hart ask path broken refuses_it x =
     let stop : IsStop w (after past) hart ask (faults.ReadFault path) = stop_of w (after past) hart ask (faults.ReadFault path) (λ no. no) x.refuses in
     record { may = x.may; refuses = stopped stop.name stop.id (faults.NotAccepted path broken) (fails_as_emptied laws w (after past) hart ask stop.name stop.id path broken refuses_it stop.is) }
+
+pub anyway : LoadLaws → (w : Setting) (past : List Event) (hart : ℕ) (ask : OpenAsk) (path : List ℕ) (broken : NotAccepted) (failed : List ℕ) → RefusesEmpty w broken
+    → Allowed (with_empty w path) past (reads_badly hart ask failed) → Allowed w past (reads_badly hart ask failed)
+anyway laws w past hart ask path broken failed refuses_it x =
+    let stop : IsStop (with_empty w path) (after past) hart ask (faults.ReadFault failed) = stop_of (with_empty w path) (after past) hart ask (faults.ReadFault failed) (λ no. no) x.refuses in
+    record { may = x.may; refuses = stopped stop.name stop.id (faults.ReadFault failed) (fails_anyway laws w (after past) hart ask stop.name stop.id path broken failed refuses_it stop.is) }
 
 pub only : LoadLaws → OneOpening → (w : Setting) (files : List File) (past : List Event) (hart : ℕ) (ask : OpenAsk) (path : List ℕ) (broken : NotAccepted) (given : List Event) (answer : Answer)
     → w.files ≡ Some files → RefusesEmpty w broken → Gives (with_empty w path) past hart (opens ask) given answer → is_chance answer ≡ false

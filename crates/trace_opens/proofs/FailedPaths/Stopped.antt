@@ -1,5 +1,5 @@
 -- An opening that a failed read stops, and one that an empty file stops.
-use Rattle.std.proofs.Common.{◌≡◌, ◌≢◌, ◌⊎◌, inl, inr, ⊎_elim, ℕ, Bool, true, false, List, [], ◌∷◌, Option, Some, None, refl, sym, ap, subst, ◌∙◌}
+use Rattle.std.proofs.Common.{◌≡◌, ◌≢◌, ◌⊎◌, inl, inr, ⊎_elim, ℕ, Bool, true, false, List, [], Option, Some, None, refl, sym, ap, subst, ◌∙◌}
 use Rattle.std.specs.Prelude.{if◌then◌else◌, ◌==◌, ◌&&◌, Result, Ok, Err}
 use Rattle.std.specs.Str.{bytes_eq}
 use Rattle.std.specs.Option.{option_map}
@@ -11,19 +11,21 @@ use Rattle.ld_base.specs.declared.fault.NotAccepted.{NotAccepted}
 use Rattle.ld_base.specs.declared.linking.File.{File}
 use Rattle.ld_base.specs.declared.linking.Loaded.{Loaded}
 use Rattle.ld_base.specs.declared.linking.State.{State as ObjectState}
+use Rattle.ld_base.specs.declared.object.Object.{Object}
+use Rattle.ld_base.specs.declared.parts.HashTable.{HashTable}
 use Rattle.ld_base.specs.declared.linking.State.TheVariants as states
 use Rattle.library_source.specs.Files.{file_at}
 use Rattle.history_event.specs.declared.event.OpenAsk.{OpenAsk}
 use Rattle.history_state.specs.Flags.{is_noload}
 use Rattle.history_state.specs.Objects.{is_startup}
-use Rattle.history_state.specs.Opening.{IsNowhere, IsStopped}
-use Rattle.history_state.specs.Setting.{AreReadings, MayHold, MayRead, Readings, ReadingsBy, Setting, load_of}
+use Rattle.history_state.specs.Opening.{IsStopped}
+use Rattle.history_state.specs.Setting.{AreReadings, MayHold, MayRead, ReadingsBy, Setting, load_of}
 use Rattle.history_state.specs.State.{State}
 use Rattle.scope_rule.specs.Finding.{Reading, here, unaccepted, absent, failed}
-use Rattle.scope_rule.specs.Load.{Load, Walk, Stop, Found, Brings, Stops, refuses, waits, present, fresh, nowhere, stops, by_reading, use_in, use_of}
+use Rattle.scope_rule.specs.Load.{Load, Walk, Stop, Found, Brings, Stops, refuses, waits, present, stops, by_reading, use_in, use_of}
 use Rattle.scope_rule.specs.Loads.{ReadsNothing, alone, named_there}
 use Rattle.trace_opens.specs.FailedPaths.Emptied.{RefusesEmpty, emptied, with_empty}
-use Rattle.trace_opens.proofs.FailedPaths.Changed.{changed_at, stops_changed}
+use Rattle.trace_opens.proofs.FailedPaths.Changed.{changed_at, changed_there, stopped_so, stops_so, unchanged_there}
 
 -- laws of loads
 pub record LoadLaws : Type 0 where
@@ -161,8 +163,8 @@ fails_as_emptied laws w s hart ask name id p broken refuses_it x = record {
   reading = changed_at p (unaccepted broken) x.reading;
   read = by (is_noload ask.flags) x.read;
   loads = λ n. x.loads (record { noload = n.noload; none = n.none });
-  stops = stops_changed (load_of w s hart id name x.reading) p (unaccepted broken) (faults.ReadFault p) (faults.NotAccepted p broken) refl
-      (λ path other is. elsewhere_failed p path (x.reading path) other is) (λ o is. not_used (faults.ReadFault p) (failed_is p) hart o is) (λ n is. absurd cc) x.stops;
+  stops = stops_so (load_of w s hart id name x.reading) (changed_at p (unaccepted broken) x.reading) (faults.ReadFault p) (faults.NotAccepted p broken)
+      (changed_there x.reading p (unaccepted broken) (faults.ReadFault p) (faults.NotAccepted p broken) (λ path other is. elsewhere_failed p path (x.reading path) other is) refl) (λ o is. not_used (faults.ReadFault p) (failed_is p) hart o is) (λ n is. absurd cc) x.stops;
 }
   where
     by : (b : Bool) → ReadingsBy b w s name x.reading → ReadingsBy b (with_empty w p) s name (changed_at p (unaccepted broken) x.reading)
@@ -175,10 +177,86 @@ emptied_fails laws w s hart ask name id p broken x = record {
   reading = changed_at p failed x.reading;
   read = by (is_noload ask.flags) x.read;
   loads = λ n. x.loads (record { noload = n.noload; none = n.none });
-  stops = stops_changed (load_of (with_empty w p) s hart id name x.reading) p failed (faults.NotAccepted p broken) (faults.ReadFault p) refl
-      (λ path other is. elsewhere_broken p path broken (x.reading path) other is) (λ o is. not_used (faults.NotAccepted p broken) (broken_is p broken) hart o is) (λ n is. absurd cc) x.stops;
+  stops = stops_so (load_of (with_empty w p) s hart id name x.reading) (changed_at p failed x.reading) (faults.NotAccepted p broken) (faults.ReadFault p)
+      (changed_there x.reading p failed (faults.NotAccepted p broken) (faults.ReadFault p) (λ path other is. elsewhere_broken p path broken (x.reading path) other is) refl) (λ o is. not_used (faults.NotAccepted p broken) (broken_is p broken) hart o is) (λ n is. absurd cc) x.stops;
 }
   where
     by : (b : Bool) → ReadingsBy b (with_empty w p) s name x.reading → ReadingsBy b w s name (changed_at p failed x.reading)
     by true none = absurd (never laws (faults.NotAccepted p broken) (broken_is p broken) (load_of (with_empty w p) s hart id name x.reading) none x.stops)
     by false all = unreads w p broken s name x.reading all
+
+-- ---- a read that fails elsewhere
+
+-- what the empty file may read as: it is refused, or its read fails
+abbrev ReadsEmpty : NotAccepted → Reading → Type 0
+ReadsEmpty broken x = (x ≡ unaccepted broken) ⊎ (x ≡ failed)
+
+not_both : (r : Result (Object × HashTable) NotAccepted) (broken : NotAccepted) (object : Object × HashTable) → r ≡ Err broken → r ≡ Ok object → ⊥
+not_both r broken object none some = absurd (let d : Err broken ≡ Ok object = sym none ∙ some in cc)
+
+module _ (w : Setting) (files : List File) (told : w.files ≡ Some files) (p : List ℕ) (broken : NotAccepted) (refuses_it : RefusesEmpty w broken) where
+  empty_at : (bytes : Option (List ℕ)) → MayHold (option_map (emptied p) w.files) p bytes → Some [] ≡ bytes
+  empty_at bytes held =
+      let at : MayHold (Some (emptied p files)) p bytes = subst (λ (fs : Option (List File)). MayHold (option_map (emptied p) fs) p bytes) told held in
+      sym (empty_held p (Some files) p ((bytes_eq-Decides p p).1 refl)) ∙ at
+
+  reads_empty : (program : Bool) (x : Reading) → MayRead (with_empty w p) program p x → ReadsEmpty broken x
+  reads_empty program (here o table) m =
+      let bytes : [] ≡ m.0 = (let d : Some [] ≡ Some m.0 = empty_at (Some m.0) m.1 in cc) in
+      absurd (not_both (w.machine.verdict [] program) broken (o, table) (refuses_it program) (ap (λ (b : List ℕ). w.machine.verdict b program) bytes ∙ m.2))
+  reads_empty program (unaccepted other) m =
+      let bytes : [] ≡ m.0 = (let d : Some [] ≡ Some m.0 = empty_at (Some m.0) m.1 in cc) in
+      let d : Err broken ≡ Err other = sym (refuses_it program) ∙ ap (λ (b : List ℕ). w.machine.verdict b program) bytes ∙ m.2 in
+      let same : broken ≡ other = cc in
+      inl (ap unaccepted (sym same))
+  reads_empty program absent m = let d : Some [] ≡ None = empty_at None m in absurd cc
+  reads_empty program failed m = inr refl
+
+  module _ (s : State) (hart : ℕ) (ask : OpenAsk) (name : List ℕ) (id : ℕ) (q : List ℕ) (r : List ℕ → Reading) where
+    abbrev load_by : (List ℕ → Reading) → Load
+    load_by reading = load_of w s hart id name reading
+
+    -- what the path reads as stops the load for another fault
+    stays : (t : DlFault) → by_reading p (r p) ≡ stops (refuses t) → (faults.ReadFault q ≡ t → ⊥) → Stops (load_by r) (refuses (faults.ReadFault q)) → Stops (load_by (changed_at p failed r)) (refuses (faults.ReadFault q))
+    stays t at_it other = stopped_so (load_by (changed_at p failed r)) r (faults.ReadFault p) t
+        (unchanged_there r p failed (faults.ReadFault p) t (λ path elsewhere is. elsewhere_failed p path (r path) elsewhere is) at_it)
+        (λ o is. not_used (faults.ReadFault p) (failed_is p) hart o is) (λ n is. absurd cc) (faults.ReadFault q) other
+
+    -- the read of that path itself fails
+    fails_there : q ≡ p → Stops (load_by r) (refuses (faults.ReadFault q)) → Stops (load_by (changed_at p failed r)) (refuses (faults.ReadFault q))
+    fails_there same x =
+        subst (λ (path : List ℕ). Stops (load_by (changed_at p failed r)) (refuses (faults.ReadFault path))) (sym same)
+        (stops_so (load_by r) (changed_at p failed r) (faults.ReadFault p) (faults.ReadFault p)
+        (changed_there r p failed (faults.ReadFault p) (faults.ReadFault p) (λ path elsewhere is. elsewhere_failed p path (r path) elsewhere is) refl)
+        (λ o is. not_used (faults.ReadFault p) (failed_is p) hart o is) (λ n is. absurd cc) (subst (λ (path : List ℕ). Stops (load_by r) (refuses (faults.ReadFault path))) same x))
+
+    fails_on : ReadsEmpty broken (r p) → Stops (load_by r) (refuses (faults.ReadFault q)) → Stops (load_by (changed_at p failed r)) (refuses (faults.ReadFault q))
+    fails_on (inl is) x = stays (faults.NotAccepted p broken) (ap (by_reading p) is) (λ same. absurd cc) x
+    fails_on (inr is) x = ⊎_elim
+        (λ (same : bytes_eq q p ≡ true). fails_there ((bytes_eq-Decides q p).0 same) x)
+        (λ (other : bytes_eq q p ≡ false). stays (faults.ReadFault p) (ap (by_reading p) is) (λ same. differ q p other (let d : faults.ReadFault q ≡ faults.ReadFault p = same in cc)) x)
+        (cases_Bool (bytes_eq q p))
+
+  fails_told : LoadLaws → (s : State) (hart : ℕ) (ask : OpenAsk) (name : List ℕ) (id : ℕ) (q : List ℕ) → IsStopped (with_empty w p) s hart ask name id (faults.ReadFault q) → IsStopped w s hart ask name id (faults.ReadFault q)
+  fails_told laws s hart ask name id q x = by (is_noload ask.flags) refl x.read
+    where
+      by : (b : Bool) → is_noload ask.flags ≡ b → ReadingsBy b (with_empty w p) s name x.reading → IsStopped w s hart ask name id (faults.ReadFault q)
+      by true is none = absurd (never laws (faults.ReadFault q) (failed_is q) (load_of w s hart id name x.reading) none x.stops)
+      by false is all = record {
+        named = x.named;
+        reading = changed_at p failed x.reading;
+        read = subst (λ (b : Bool). ReadingsBy b w s name (changed_at p failed x.reading)) (sym is) (unreads w p broken s name x.reading all);
+        loads = λ n. x.loads (record { noload = n.noload; none = n.none });
+        stops = fails_on s hart ask name id q x.reading (reads_empty (is_startup s && bytes_eq name p) (x.reading p) (all p)) x.stops;
+      }
+
+-- a read that fails over the empty file may fail without it
+pub fails_anyway : LoadLaws → (w : Setting) (s : State) (hart : ℕ) (ask : OpenAsk) (name : List ℕ) (id : ℕ) (p : List ℕ) (broken : NotAccepted) (q : List ℕ) → RefusesEmpty w broken
+    → IsStopped (with_empty w p) s hart ask name id (faults.ReadFault q) → IsStopped w s hart ask name id (faults.ReadFault q)
+fails_anyway laws w s hart ask name id p broken q refuses_it x = by w.files refl
+  where
+    by : (told : Option (List File)) → w.files ≡ told → IsStopped w s hart ask name id (faults.ReadFault q)
+    by (Some files) is = fails_told w files is p broken refuses_it laws s hart ask name id q x
+    by None is =
+        let same : with_empty w p ≡ w = ap (λ (fs : Option (List File)). record w { files = fs }) (ap (option_map (emptied p)) is ∙ sym is) in
+        subst (λ (v : Setting). IsStopped v s hart ask name id (faults.ReadFault q)) same x

@@ -1,6 +1,6 @@
 -- The one answer of an opening, but for a failed read.
-use Rattle.std.proofs.Common.{◌≡◌, ℕ, Bool, true, false, List, [], ◌∷◌, Option, Some, None, Result, Ok, Err, refl, sym, ap, subst, ◌∙◌}
-use Rattle.std.specs.Prelude.{IfErr, IfOk, IsTrue, if◌then◌else◌, map}
+use Rattle.std.proofs.Common.{◌≡◌, ◌⊎◌, inl, inr, ℕ, Bool, true, false, List, [], ◌∷◌, Option, Some, None, Result, Ok, Err, refl, sym, ap, subst, ◌∙◌}
+use Rattle.std.specs.Prelude.{IfOk, IsTrue, if◌then◌else◌, map}
 use Rattle.std.specs.Option.{option_map}
 use Rattle.std.proofs.lemmas.List.{length-map}
 use Rattle.std.proofs.lemmas.Option.{slice_get-map}
@@ -40,7 +40,7 @@ use Rattle.link_open_plan.specs.declared.planning.Unopened.{Unopened}
 use Rattle.link_open_plan.specs.declared.planning.Unopened.TheVariants as unopened
 use Rattle.scope_rule.specs.Seen.{Seen}
 use Rattle.trace_opens.specs.FailedPaths.Emptied.{reads_badly}
-use Rattle.trace_opens.specs.OpeningRows.Expected.{FailsBy, IsCertain, IsExpectedOpening, IsFound, MayOpenSo, brought, failed_path, planned, read_path, refusal, unplanned}
+use Rattle.trace_opens.specs.OpeningRows.Expected.{FailsBy, FindsEach, IsCertain, IsExpectedOpening, LacksFiles, LoadsName, MayOpenSo, brought, failed_path, planned, read_path, refusal, unplanned}
 use Rattle.trace_opens.specs.declared.failed_paths.judging.Doubt.{Doubt}
 use Rattle.trace_read.specs.Said.{said_of_answer}
 use Rattle.trace_replay.specs.Taken.{event_of}
@@ -84,6 +84,16 @@ module _ (one : OneOpening) (w : Setting) (files : List File) (past : List Event
   pub same_of : (other : OpenAnswer) → Allowed w past (Open hart ask other) → is_chance (came other) ≡ false → Open hart ask other ≡ Open hart ask answer
   same_of other may_other certain = let all : Open hart ask other ∷ [] ≡ Open hart ask answer ∷ [] = one_of (Open hart ask other ∷ []) (came other) (gives w past hart ask other may_other) certain in cc
 
+-- ---- where files are told
+
+-- it holds, since it does where files are told; or they aren't
+told_or : (P : Type 0) (w : Setting) (past : List Event) (hart : ℕ) (ask : OpenAsk) → LoadsName (after past) hart ask → ((files : List File) → w.files ≡ Some files → P) → P ⊎ LacksFiles w past hart ask
+told_or P w past hart ask loads where_told = by w.files refl
+  where
+    by : (told : Option (List File)) → w.files ≡ told → P ⊎ LacksFiles w past hart ask
+    by (Some files) is = inl (where_told files is)
+    by None is = inr (record { loads = loads; none = is })
+
 -- ---- what plans give
 
 none_choose : (ns : Seen) (now : Bool) → AreChoices ns now [] []
@@ -97,6 +107,9 @@ are_choices ns now added choices are = subst (AreChoices ns now added) (sym are)
 
 module _ (w : Setting) (past : List Event) (hart : ℕ) (ask : OpenAsk) (name : List ℕ) (id : ℕ)
     (may : MayAsk (after past) hart ask) (named : IsNamed (after past) ask name id) where
+  loads_name_so : LoadsName (after past) hart ask
+  loads_name_so = record { may = may; name = name; id = id; named = named }
+
   loads_name : (n : NewObjects) → PlansNew w (after past) hart ask name id n → OpensName w (after past) hart ask ask.name id n.root n.added n.ranges
   loads_name n p = subst (λ (x : Option (List ℕ)). OpensName w (after past) hart ask x id n.root n.added n.ranges) (sym named.named) p.loads
 
@@ -132,27 +145,27 @@ module _ (w : Setting) (past : List Event) (hart : ℕ) (ask : OpenAsk) (name : 
       → IsExpectedOpening w past hart ask line (Some (planned hart ask id p))
   expects_plan one line read p is = record {
     may = planned_may p is;
-    only = λ files answer told said allowed. record {
+    only = told_or (FindsEach w past hart ask line (Some (planned hart ask id p))) w past hart ask loads_name_so (λ files told answer said allowed. record {
       opening = planned hart ask id p;
       is = refl;
       same = planned_as p ∙ same_of one w files past hart ask line told read answer said allowed (planned hart ask id p).answer (subst (Allowed w past) (planned_as p) (planned_may p is).may) (planned_sure p);
-    };
+    });
   }
 
   pub expects_none : OneOpening → (line : OpenLine) → failed_path line ≡ None → (why : Unopened) → IsCertain why → IsUnopened w (after past) hart ask why
       → IsExpectedOpening w past hart ask line (unplanned hart ask why)
   expects_none one line read (unopened.Refused fault) certain is = record {
     may = record { may = record { may = may; refuses = is }; chosen = tt };
-    only = λ files answer told said allowed. record {
+    only = told_or (FindsEach w past hart ask line (Some (refusal hart ask fault))) w past hart ask loads_name_so (λ files told answer said allowed. record {
       opening = refusal hart ask fault;
       is = refl;
       same = same_of one w files past hart ask line told read answer said allowed (opens.Refused fault) (record { may = may; refuses = is }) certain;
-    };
+    });
   }
   expects_none one line read (unopened.Wait shown) certain is = record {
     may = tt;
-    only = λ files answer told said allowed. absurd (
-        let none : [] ≡ Open hart ask answer ∷ [] = one_of one w files past hart ask line told read answer said allowed [] (again shown) (to_again (call.opens ask) shown (by_load ask shown is)) refl in cc);
+    only = told_or (FindsEach w past hart ask line None) w past hart ask loads_name_so (λ files told answer said allowed. absurd (
+        let none : [] ≡ Open hart ask answer ∷ [] = one_of one w files past hart ask line told read answer said allowed [] (again shown) (to_again (call.opens ask) shown (by_load ask shown is)) refl in cc));
   }
   expects_none one line read unopened.Memory certain is = absurd certain
 
@@ -172,40 +185,37 @@ read_is (lines.Refused fault) path is = ap lines.Refused (by fault is)
     by (faults.ReadFault p) e = let same : p ≡ path = (let d : Some p ≡ Some path = e in cc) in ap faults.ReadFault same
     by other e = absurd (let d : None ≡ Some path = e in cc)
 
-fails_by : (w : Setting) (past : List Event) (hart : ℕ) (ask : OpenAsk) (line : OpenLine) (path : List ℕ) (may : Bool) (found : Option Opening) → line ≡ lines.Refused (faults.ReadFault path)
+fails_by : (w : Setting) (past : List Event) (hart : ℕ) (ask : OpenAsk) (line : OpenLine) (path : List ℕ) (may : Bool) (found : Option Opening) → LoadsName (after past) hart ask → line ≡ lines.Refused (faults.ReadFault path)
     → found ≡ (if may then Some (refusal hart ask (faults.ReadFault path)) else None)
     → (IsTrue may → Allowed w past (reads_badly hart ask path)) → (may ≡ false → (files : List File) → w.files ≡ Some files → ¬ (Allowed w past (reads_badly hart ask path)))
     → IsExpectedOpening w past hart ask line found
-fails_by w past hart ask line path true found read are can cannot = subst (IsExpectedOpening w past hart ask line) (sym are) (record {
+fails_by w past hart ask line path true found loads read are can cannot = subst (IsExpectedOpening w past hart ask line) (sym are) (record {
   may = record { may = can refl; chosen = tt };
-  only = λ files answer told said allowed. record {
+  only = inl (λ answer said allowed. record {
     opening = refusal hart ask (faults.ReadFault path);
     is = refl;
     same = ap (Open hart ask) (sym (unsaid answer path (said ∙ read)));
-  };
+  });
 })
-fails_by w past hart ask line path false found read are can cannot = subst (IsExpectedOpening w past hart ask line) (sym are) (record {
+fails_by w past hart ask line path false found loads read are can cannot = subst (IsExpectedOpening w past hart ask line) (sym are) (record {
   may = tt;
-  only = λ files answer told said allowed. absurd (cannot refl files told (subst (λ a. Allowed w past (Open hart ask a)) (unsaid answer path (said ∙ read)) allowed));
+  only = told_or (FindsEach w past hart ask line None) w past hart ask loads
+      (λ files told answer said allowed. absurd (cannot refl files told (subst (λ a. Allowed w past (Open hart ask a)) (unsaid answer path (said ∙ read)) allowed)));
 })
 
-pub fails : (w : Setting) (past : List Event) (hart : ℕ) (ask : OpenAsk) (line : OpenLine) (path : List ℕ) (r : Result Bool Doubt) (found : Option Opening) → failed_path line ≡ Some path
+pub fails : (w : Setting) (past : List Event) (hart : ℕ) (ask : OpenAsk) (line : OpenLine) (path : List ℕ) (r : Result Bool Doubt) (found : Option Opening) → LoadsName (after past) hart ask → failed_path line ≡ Some path
     → FailsBy hart ask path r found
     → IfOk r (λ may. IsTrue may → Allowed w past (reads_badly hart ask path))
     → IfOk r (λ may. may ≡ false → (files : List File) → w.files ≡ Some files → ¬ (Allowed w past (reads_badly hart ask path)))
     → IsExpectedOpening w past hart ask line found
-fails w past hart ask line path (Ok may) found read are = fails_by w past hart ask line path may found (read_is line path read) are
-fails w past hart ask line path (Err doubt) found read are = absurd are
+fails w past hart ask line path (Ok may) found loads read are = fails_by w past hart ask line path may found loads (read_is line path read) are
+fails w past hart ask line path (Err doubt) found loads read are = absurd are
 
 -- ---- results
 
 pub if_ok : {A E : Type 0} {P Q : A → Type 0} (r : Result A E) → ((a : A) → P a → Q a) → IfOk r P → IfOk r Q
 if_ok (Ok a) f p = f a p
 if_ok (Err e) f p = tt
-
-pub if_err : {A E : Type 0} {P Q : E → Type 0} (r : Result A E) → ((e : E) → P e → Q e) → IfErr r P → IfErr r Q
-if_err (Ok a) f p = tt
-if_err (Err e) f p = f e p
 
 pub both_ok : {A E : Type 0} {P Q R : A → Type 0} (r : Result A E) → ((a : A) → P a → Q a → R a) → IfOk r P → IfOk r Q → IfOk r R
 both_ok (Ok a) f p q = f a p q

@@ -1,5 +1,5 @@
 -- Startup's opening behind events that touched nothing.
-use Rattle.std.proofs.Common.{◌≡◌, ℕ, Bool, true, false, List, [], ◌∷◌, ◌++◌, Option, Some, None, refl, sym, ap, subst, ◌∙◌}
+use Rattle.std.proofs.Common.{◌≡◌, ℕ, Bool, true, false, List, [], ◌∷◌, Option, Some, None, refl, sym, ap, subst, ◌∙◌}
 use Rattle.std.specs.Prelude.{if◌then◌else◌, IsTrue, map}
 use Rattle.std.specs.Option.{option_or}
 use Rattle.ld_base.specs.declared.fault.DlFault.{DlFault}
@@ -16,15 +16,15 @@ use Rattle.history_event.specs.declared.state.Ending.{Ending}
 use Rattle.history_event.specs.declared.state.Kept.{Kept}
 use Rattle.history_event.specs.declared.state.Loading.{Loading}
 use Rattle.history_state.specs.Addresses.{address, is_code_of, leads_to_code}
-use Rattle.history_state.specs.Asking.{AreNamespacesFull, IsAsked, IsBadNamespace, IsFreeNumber, IsNamespace}
-use Rattle.history_state.specs.Bound.{binding_of, binds_now, lazy_word, place_of}
+use Rattle.history_state.specs.Asking.{AreNamespacesFull, IsAsked, IsBadNamespace, IsNamespace}
+use Rattle.history_state.specs.Bound.{binding_of, binds_now, place_of}
 use Rattle.history_state.specs.Flags.{is_noload}
 use Rattle.history_state.specs.Objects.{is_none_loaded, is_startup}
-use Rattle.history_state.specs.Opening.{ArePlaced, Finds, HaveStorage, HasNoPages, HasProgram, IsAbsent, IsNamed, IsNowhere, IsRefused, IsStopped, IsUnrelocated, LacksVersion, Loads, MayOpen, Opens}
-use Rattle.history_state.specs.Opening.{OpensName, OpensProgram, Refuses, refused}
+use Rattle.history_state.specs.Opening.{ArePlaced, Finds, HaveStorage, IsNamed, IsNowhere, Loads, MayOpen}
+use Rattle.history_state.specs.Opening.{OpensName, Refuses, refused}
 use Rattle.history_state.specs.Opening.Refuses.{name_too_long, bad_flags, bad_namespace, namespaces_full, stopped, lacks_version, has_no_pages, unrelocated}
 use Rattle.history_state.specs.Read.{IsUntouched}
-use Rattle.history_state.specs.Relocating.{first_fault, is_missing, missing_symbol, not_code, object_fault, reloc_fault, reloc_fault_by, relocation_fault, slot_fault, slot_fault_by}
+use Rattle.history_state.specs.Relocating.{first_fault, is_missing, missing_symbol, object_fault, reloc_fault, relocation_fault, slot_fault, slot_fault_by}
 use Rattle.history_state.specs.Setting.{ReadingsBy, Setting}
 use Rattle.history_state.specs.State.{State, empty_state}
 use Rattle.history_state.specs.Step.{binds, loaded, seen_after}
@@ -232,3 +232,6 @@ starts_behind w s hart ask answer is u = (
   λ may. may_open w hart ask s.now false s.kept [] s.endings [] answer (subst (λ (t : State). MayOpen w t hart ask answer) (begun_is s is u) may),
   λ may. subst (λ (t : State). MayOpen w t hart ask answer) (sym (begun_is s is u)) (may_open w hart ask false s.now [] s.kept [] s.endings answer may),
 )
+
+pub named_behind : (w : Setting) (s : State) (hart : ℕ) (ask : OpenAsk) (name : List ℕ) (id : ℕ) → IsTrue (is_startup s) → IsUntouched s → IsNamed empty_state ask name id → IsNamed s ask name id
+named_behind w s hart ask name id is u x = subst (λ (t : State). IsNamed t ask name id) (sym (begun_is s is u)) (named w hart ask false s.now [] s.kept [] s.endings name id x)

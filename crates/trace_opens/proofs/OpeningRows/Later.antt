@@ -1,35 +1,29 @@
 -- Openings once startup is over, for what they ask.
-use Rattle.std.proofs.Common.{◌≡◌, ◌<◌, ◌≤◌, ℕ, Bool, true, false, List, [], ◌∷◌, Option, Some, None, length, refl, sym, ap, subst, ◌∙◌, arith}
-use Rattle.std.specs.Prelude.{IsTrue, not, ◌&&◌, nat_le}
+use Rattle.std.proofs.Common.{◌≡◌, inl, ◌<◌, ◌≤◌, ℕ, true, false, List, [], ◌∷◌, Option, Some, None, length, refl, sym, ap, subst, ◌∙◌, arith}
+use Rattle.std.specs.Prelude.{not, ◌&&◌, nat_le}
 use Rattle.std.proofs.lemmas.Bool.{true≢false}
 use Rattle.std.proofs.lemmas.Bool.Decides.{nat_tests}
 use Rattle.ld_base.specs.declared.fault.DlFault.{DlFault}
-use Rattle.ld_base.specs.declared.linking.File.{File}
-use Rattle.ld_base.specs.declared.linking.Loaded.{Loaded}
 use Rattle.history_event.specs.declared.event.Event.{Event}
 use Rattle.history_event.specs.declared.event.Event.TheVariants.{Open}
 use Rattle.history_event.specs.declared.event.OpenAnswer.{OpenAnswer}
 use Rattle.history_event.specs.declared.event.OpenAnswer.TheVariants as opens
 use Rattle.history_event.specs.declared.event.OpenAsk.{OpenAsk}
-use Rattle.history_event.specs.declared.event.Range.{Range}
 use Rattle.history_event.specs.declared.event_line.OpenLine.{OpenLine}
-use Rattle.history_event.specs.declared.handed.Opening.{Opening}
 use Rattle.history_state.specs.After.{after}
 use Rattle.history_state.specs.Allowed.{Allowed}
 use Rattle.history_state.specs.Asking.{AreNamespacesFull, IsAsked, IsBadNamespace, IsNamespace, MayAsk, asks_too_long}
 use Rattle.history_state.specs.Objects.{is_startup}
-use Rattle.history_state.specs.Opening.{HasProgram, IsNamed, OpensName, Refuses}
+use Rattle.history_state.specs.Opening.{HasProgram, OpensName, Refuses}
 use Rattle.history_state.specs.Opening.Refuses.{name_too_long, bad_flags, bad_namespace, namespaces_full, stopped, lacks_version, has_no_pages, unrelocated}
 use Rattle.history_state.specs.Setting.{Setting}
 use Rattle.history_state.specs.State.{State}
-use Rattle.history_calls.specs.Answer.{Answer, refused}
+use Rattle.history_calls.specs.Answer.{refused}
 use Rattle.history_calls.specs.CallLaws.Laws.{RefusedByAsking}
 use Rattle.history_calls.specs.Laws.{AskFirst, is_want}
 use Rattle.trace_opens.specs.OpeningRows.Asked.{IsKnown, IsOverlong, IsRefusedFor}
-use Rattle.trace_opens.specs.OpeningRows.Expected.{IsExpectedOpening, IsFound, MayOpenSo, refusal}
+use Rattle.trace_opens.specs.OpeningRows.Expected.{IsExpectedOpening, refusal}
 use Rattle.trace_opens.proofs.OpeningRows.Answered.{came, gives}
-use Rattle.link_open_images.specs.Relocated.{AreChoices}
-use Rattle.trace_read.specs.Said.{said_of_answer}
 
 not_begun : (s : State) (hart : ℕ) (ask : OpenAsk) → is_startup s ≡ false → MayAsk s hart ask
 not_begun s hart ask started is = absurd (true≢false (sym is ∙ started))
@@ -63,7 +57,7 @@ module _ (w : Setting) (past : List Event) (hart : ℕ) (ask : OpenAsk) (started
   not_allowed (opens.Refused fault) long x = refused_short fault long x.refuses
 
   pub expects_no_long : (line : OpenLine) → IsOverlong ask.name → IsExpectedOpening w past hart ask line None
-  expects_no_long line long = record { may = tt; only = λ files answer told said allowed. absurd (not_allowed answer long allowed) }
+  expects_no_long line long = record { may = tt; only = inl (λ answer said allowed. absurd (not_allowed answer long allowed)) }
 
   -- ---- what is refused for what it asks
 
@@ -85,12 +79,12 @@ module _ (w : Setting) (past : List Event) (hart : ℕ) (ask : OpenAsk) (started
   pub expects_refusal : RefusedByAsking → AskFirst → (line : OpenLine) (fault : DlFault) → IsRefusedFor (after past) ask fault → IsExpectedOpening w past hart ask line (Some (refusal hart ask fault))
   expects_refusal by_asking first line fault x = record {
     may = record { may = record { may = not_begun (after past) hart ask started; refuses = by_asking w (after past) hart ask fault x.refuses (known_name ask.name x.known) }; chosen = tt };
-    only = λ files answer told said allowed. record {
+    only = inl (λ answer said allowed. record {
       opening = refusal hart ask fault;
       is = refl;
       same = ap (Open hart ask) (as_refused answer fault
           (first w past hart ask (Open hart ask answer ∷ []) (came answer) fault x.refuses (gives w past hart ask answer allowed) (is_no_want answer)));
-    };
+    });
   }
 
   -- ---- the null name
@@ -140,9 +134,9 @@ module _ (w : Setting) (past : List Event) (hart : ℕ) (ask : OpenAsk) (started
       };
       chosen = record { count = refl; each = λ k o at. absurd (let d : None ≡ Some o = at in cc) };
     };
-    only = λ files answer told said allowed. record {
+    only = inl (λ answer said allowed. record {
       opening = record { hart = hart; ask = ask; answer = opens.Done id 1 [] []; choices = [] };
       is = refl;
       same = ap (Open hart ask) (program_only id answer none asked allowed);
-    };
+    });
   }

@@ -1,6 +1,6 @@
 -- What a replay lends to who plans an opening.
-use Rattle.std.proofs.Common.{◌≡◌, ℕ, Bool, false, true, List, [], ◌∷◌, Option, Some, None, Result, Ok, refl, sym, ap, subst, ◌∙◌}
-use Rattle.std.specs.Prelude.{IsTrue, find}
+use Rattle.std.proofs.Common.{◌≡◌, ℕ, Bool, false, List, [], ◌∷◌, Option, Some, None, Ok, refl, sym, ap, subst, ◌∙◌}
+use Rattle.std.specs.Prelude.{find}
 use Rattle.std.specs.List.{AllByRecursion, Contains}
 use Rattle.elf_object.specs.Verdict.{object_verdict}
 use Rattle.ld_base.specs.declared.linking.File.{File}
@@ -12,7 +12,7 @@ use Rattle.history_event.specs.declared.event.OpenAsk.{OpenAsk}
 use Rattle.history_state.specs.After.{after}
 use Rattle.history_state.specs.Areas.{free_pages}
 use Rattle.history_state.specs.Laws.{IsIn}
-use Rattle.history_state.specs.Objects.{has_id, is_startup}
+use Rattle.history_state.specs.Objects.{has_id}
 use Rattle.history_state.specs.Opening.{IsNamed}
 use Rattle.history_state.specs.Read.{IsUntouched, ObjectsAreRead}
 use Rattle.history_state.specs.State.{State, empty_namespace}
@@ -28,7 +28,7 @@ use Rattle.seg_image.specs.Accepted.{Accepted}
 use Rattle.sym_hash.specs.Reached.{IsTableOf}
 use Rattle.trace_opens.specs.OpeningRows.Expected.{trace_run}
 use Rattle.trace_replay.specs.Lists.{Lists}
-use Rattle.trace_replay.specs.Shown.{IsHistory, IsShown, Shows}
+use Rattle.trace_replay.specs.Shown.{Shows}
 
 -- the lists are what is lent
 pub record Lends (l : Lists) (b : Before) : Type 0 where

@@ -1,5 +1,5 @@
 -- A failed read, and an empty file in its place. For the code of this crate alone.
-use Rattle.std.specs.Prelude.{◌≡◌, ℕ, Bool, false, List, [], ◌∷◌, Option, Some, Err}
+use Rattle.std.specs.Prelude.{◌≡◌, ℕ, Bool, false, List, [], ◌∷◌, Some, Err}
 use Rattle.std.specs.Option.{option_map}
 use Rattle.elf_object.specs.Verdict.{object_verdict}
 use Rattle.ld_base.specs.declared.fault.DlFault.TheVariants as faults
@@ -51,3 +51,8 @@ OnlyAsEmptied = (w : Setting) (files : List File) (past : List Event) (hart : �
     (given : List Event) (answer : Answer) → w.files ≡ Some files → RefusesEmpty w broken
     → Gives (with_empty w path) past hart (opens ask) given answer → is_chance answer ≡ false
     → Allowed w past (reads_badly hart ask path) → given ≡ is_broken hart ask path broken ∷ []
+
+-- a read that may fail over the empty file may fail without it, whichever it is
+abbrev pub FailsAnyway : Type 0
+FailsAnyway = (w : Setting) (past : List Event) (hart : ℕ) (ask : OpenAsk) (path : List ℕ) (broken : NotAccepted) (failed : List ℕ)
+    → RefusesEmpty w broken → Allowed (with_empty w path) past (reads_badly hart ask failed) → Allowed w past (reads_badly hart ask failed)

@@ -1,9 +1,8 @@
 -- What comes of what an opening asks, before anything is looked for.
-use Rattle.std.specs.Prelude.{◌≡◌, ◌<◌, ◌≤◌, ℕ, List, length, Option, Some, None}
+use Rattle.std.specs.Prelude.{◌<◌, ◌≤◌, ℕ, List, length, Option, Some, None}
 use Rattle.ld_base.specs.declared.fault.DlFault.{DlFault}
-use Rattle.ld_base.specs.declared.fault.DlFault.TheVariants as faults
 use Rattle.history_event.specs.declared.event.OpenAsk.{OpenAsk}
-use Rattle.history_state.specs.Asking.{AreNamespacesFull, IsAsked, IsBadNamespace}
+use Rattle.history_state.specs.Asking.{IsAsked}
 use Rattle.history_state.specs.State.{State}
 use Rattle.history_calls.specs.Laws.{RefusesAsk}
 use Rattle.trace_opens.specs.declared.opening_rows.asking.Asked.{Asked}
@@ -29,8 +28,3 @@ abbrev pub ComesOfAsking : State → OpenAsk → Asked → Type 0
 ComesOfAsking s ask (asks.In id) = IsAsked s ask id
 ComesOfAsking s ask (asks.Refused fault) = IsRefusedFor s ask fault
 ComesOfAsking s ask asks.Overlong = IsOverlong ask.name
-
--- no namespace is had for what is asked: there is no such one, or there are as many as there may be
-pub data RefusesNamespace (s : State) (ns : Option ℕ) (name : Option (List ℕ)) : DlFault → Type 0 where
-  bad : (number : ℕ) → IsBadNamespace s ns name number → RefusesNamespace s ns name (faults.BadNamespace number)
-  full : AreNamespacesFull s ns name → RefusesNamespace s ns name faults.NamespacesFull

@@ -1,5 +1,5 @@
 -- The one event that a line of an opening may be.
-use Rattle.std.specs.Prelude.{◌≡◌, ℕ, Bool, false, if◌then◌else◌, List, [], Option, Some, None, Result, Ok, Err, IfSome}
+use Rattle.std.specs.Prelude.{◌≡◌, ◌⊎◌, ℕ, Bool, false, if◌then◌else◌, List, [], Option, Some, None, Result, Ok, Err, IfSome}
 use Rattle.ld_base.specs.declared.fault.DlFault.{DlFault}
 use Rattle.ld_base.specs.declared.fault.DlFault.TheVariants as faults
 use Rattle.ld_base.specs.declared.linking.File.{File}
@@ -11,8 +11,12 @@ use Rattle.history_event.specs.declared.event.OpenAsk.{OpenAsk}
 use Rattle.history_event.specs.declared.event_line.OpenLine.{OpenLine}
 use Rattle.history_event.specs.declared.event_line.OpenLine.TheVariants as lines
 use Rattle.history_event.specs.declared.handed.Opening.{Opening}
+use Rattle.history_state.specs.After.{after}
 use Rattle.history_state.specs.Allowed.{Allowed}
+use Rattle.history_state.specs.Asking.{MayAsk}
+use Rattle.history_state.specs.Opening.{IsNamed}
 use Rattle.history_state.specs.Setting.{Setting}
+use Rattle.history_state.specs.State.{State}
 use Rattle.history_calls.specs.Laws.{is_read_fault}
 use Rattle.history_journal.specs.Following.{machine_of}
 use Rattle.link_open_plan.specs.declared.planning.NewObjects.{NewObjects}
@@ -21,6 +25,7 @@ use Rattle.link_open_plan.specs.declared.planning.Planned.TheVariants as plans
 use Rattle.link_open_plan.specs.declared.planning.Unopened.{Unopened}
 use Rattle.link_open_plan.specs.declared.planning.Unopened.TheVariants as unopened
 use Rattle.trace_opens.specs.declared.failed_paths.judging.Doubt.{Doubt}
+use Rattle.trace_opens.specs.declared.failed_paths.judging.Doubt.TheVariants as doubts
 use Rattle.trace_read.specs.Said.{said_of_answer}
 use Rattle.trace_replay.specs.Taken.{ChosenFor, event_of}
 
@@ -39,11 +44,32 @@ pub record IsFound (found : Option Opening) (e : Event) : Type 0 where
   pub is : found ≡ Some opening
   pub same : event_of opening ≡ e
 
--- what is found may come next; and where files are told, it is whatever may come that has the line
+-- whatever may come that has the line was found
+abbrev pub FindsEach : Setting → List Event → ℕ → OpenAsk → OpenLine → Option Opening → Type 0
+FindsEach w past hart ask line found = (answer : OpenAnswer) → said_of_answer answer ≡ line → Allowed w past (Open hart ask answer)
+    → IsFound found (Open hart ask answer)
+
+-- the opening comes to load a name: it may be asked for, and isn't refused for what it asks
+pub record LoadsName (s : State) (hart : ℕ) (ask : OpenAsk) : Type 0 where
+  pub may : MayAsk s hart ask
+  pub name : List ℕ
+  pub id : ℕ
+  pub named : IsNamed s ask name id
+
+-- what it gives is left to files, and none are told
+pub record LacksFiles (w : Setting) (past : List Event) (hart : ℕ) (ask : OpenAsk) : Type 0 where
+  pub loads : LoadsName (after past) hart ask
+  pub none : w.files ≡ None
+
+-- what is found may come next; and it is whatever may come that has the line, unless that is left to files that aren't told
 pub record IsExpectedOpening (w : Setting) (past : List Event) (hart : ℕ) (ask : OpenAsk) (line : OpenLine) (found : Option Opening) : Type 0 where
   pub may : IfSome found (MayOpenSo w past)
-  pub only : (files : List File) (answer : OpenAnswer) → w.files ≡ Some files → said_of_answer answer ≡ line
-      → Allowed w past (Open hart ask answer) → IsFound found (Open hart ask answer)
+  pub only : FindsEach w past hart ask line found ⊎ LacksFiles w past hart ask
+
+-- the opening may be refused for the read that failed
+abbrev pub MayFailSo : Setting → List Event → ℕ → OpenAsk → Doubt → Type 0
+MayFailSo w past hart ask (doubts.ReadFault path) = Allowed w past (Open hart ask (opens.Refused (faults.ReadFault path)))
+MayFailSo w past hart ask doubts.Memory = Unit {0}
 
 -- ---- for the code of this crate alone
 

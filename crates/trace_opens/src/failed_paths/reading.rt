@@ -11,6 +11,7 @@ ghost use Rattle.link_open_plan.specs.Before.{HasObjects, IsBefore};
 ghost use Rattle.link_open_plan.specs.Startup.{IsFirst, run_of};
 ghost use Rattle.trace_opens.specs.FailedPaths.Emptied.{first_rule, is_broken, reads_badly};
 ghost use Rattle.trace_opens.specs.FailedPaths.Row.{GivesOther};
+ghost use Rattle.trace_opens.specs.OpeningRows.Expected.{MayFailSo};
 ghost use Rattle.trace_opens.specs.declared.failed_paths.judging.Doubt.TheVariants.{ReadFault};
 
 use super::emptied::EmptyAt;
@@ -45,6 +46,8 @@ pub(crate) fn may_fail_at<L: Library>(
     ensures no { IfOk result.0 (λ may. may ≡ false → (w : Setting) (files : List File) (past : List Event) (id : ℕ) → w.files ≡ Some files
         → IsBefore w past ask.now name.now id before.now folders.now (L.files library) → ¬ (Allowed w past (reads_badly hart ask.now path.now))) }
     ensures failed { IfErr result.0 (λ doubt. (failed : List ℕ) → doubt ≡ ReadFault failed → Rises (L.faults library) (L.faults result.1)) }
+    ensures path { IfErr result.0 (λ doubt. (w : Setting) (past : List Event) (id : ℕ)
+        → IsBefore w past ask.now name.now id before.now folders.now (L.files library) → MayFailSo w past hart ask.now doubt) }
     ensures files { L.files result.1 ≡ L.files library }
     ensures faults { L.faults library ≤ L.faults result.1 }
     ensures misses { L.misses library ≤ L.misses result.1 }
@@ -72,6 +75,8 @@ fn plan_and_judge<L: Library>(
     ensures no { IfOk result (λ may. may ≡ false → (w : Setting) (past : List Event) (id : ℕ)
         → IsBefore w past ask.now name.now id before.now folders.now (L.files library.old) → GivesOther w past hart ask.now path.now) }
     ensures failed { IfErr result (λ doubt. (failed : List ℕ) → doubt ≡ ReadFault failed → Rises (L.faults library.old) (L.faults library.new)) }
+    ensures path { IfErr result (λ doubt. (w : Setting) (past : List Event) (id : ℕ)
+        → IsBefore w past ask.now name.now id before.now folders.now (L.files library.old) → MayFailSo w past hart ask.now doubt) }
     ensures files { L.files library.new ≡ L.files library.old }
     ensures faults { L.faults library.old ≤ L.faults library.new }
     ensures misses { L.misses library.old ≤ L.misses library.new }
@@ -101,6 +106,7 @@ pub(crate) fn may_fail_at_start<L: Library>(
     ensures no { IfOk result.0 (λ may. may ≡ false → (files : List File) → L.files library ≡ Some files
         → ¬ (Allowed (run_of setup.now (L.files library)) [] (reads_badly 0 ask.now path.now))) }
     ensures failed { IfErr result.0 (λ doubt. (failed : List ℕ) → doubt ≡ ReadFault failed → Rises (L.faults library) (L.faults result.1)) }
+    ensures path { IfErr result.0 (MayFailSo (run_of setup.now (L.files library)) [] 0 ask.now) }
     ensures files { L.files result.1 ≡ L.files library }
     ensures faults { L.faults library ≤ L.faults result.1 }
     ensures misses { L.misses library ≤ L.misses result.1 }
@@ -127,6 +133,7 @@ fn plan_program_and_judge<L: Library>(
     ensures yes { IfOk result (λ may. IsTrue may → Allowed (run_of setup.now (L.files library.old)) [] (is_broken 0 ask.now path.now first_rule)) }
     ensures no { IfOk result (λ may. may ≡ false → GivesOther (run_of setup.now (L.files library.old)) [] 0 ask.now path.now) }
     ensures failed { IfErr result (λ doubt. (failed : List ℕ) → doubt ≡ ReadFault failed → Rises (L.faults library.old) (L.faults library.new)) }
+    ensures path { IfErr result (MayFailSo (run_of setup.now (L.files library.old)) [] 0 ask.now) }
     ensures files { L.files library.new ≡ L.files library.old }
     ensures faults { L.faults library.old ≤ L.faults library.new }
     ensures misses { L.misses library.old ≤ L.misses library.new }

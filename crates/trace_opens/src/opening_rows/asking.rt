@@ -3,9 +3,11 @@
 ghost use Rattle.std.specs.Prelude.{◌≡◌, ◌<◌, ℕ, false, true, IfErr, IfNone, IfOk, IfSome, IsTrue};
 ghost use Rattle.std.specs.List.{list_any};
 ghost use Rattle.history_state.specs.Asking.{IsFreeNumber, IsNamespace, asks_too_long};
+ghost use Rattle.history_calls.specs.Laws.{RefusesAsk};
+ghost use Rattle.history_state.specs.Flags.{are_flags};
 ghost use Rattle.history_state.specs.Objects.{has_id, has_namespace, is_startup};
 ghost use Rattle.history_state.specs.State.{State};
-ghost use Rattle.trace_opens.specs.OpeningRows.Asked.{ComesOfAsking, IsKnown, IsOverlong, RefusesNamespace};
+ghost use Rattle.trace_opens.specs.OpeningRows.Asked.{ComesOfAsking, IsKnown, IsOverlong};
 
 use history_event::OpenAsk;
 use ld_base::{DlFault, NsId};
@@ -70,7 +72,8 @@ fn is_too_long(ask: &OpenAsk) -> bool
 /// The namespace, whose number is one that is there or that is free. The null name is the program's.
 fn namespace_of(namespaces: &[Namespace], ask: &OpenAsk) -> Result<NsId, DlFault>
     ensures asked { (s : State) → s.namespaces ≡ namespaces.now → IfOk result (λ id. IsNamespace s ask.now.ns ask.now.name id) }
-    ensures refused { (s : State) → s.namespaces ≡ namespaces.now → IfErr result (RefusesNamespace s ask.now.ns ask.now.name) }
+    ensures refused { (s : State) → s.namespaces ≡ namespaces.now → asks_too_long s ask.now.name ≡ false → IsTrue (are_flags ask.now.flags)
+        → IfErr result (RefusesAsk s ask.now) }
 {
     match (ask.ns, &ask.name) {
         (Some(number), Some(_)) => match numbered(namespaces, number) {

@@ -3,7 +3,7 @@
 ghost use Rattle.std.specs.Prelude.{◌≡◌, ◌≤◌, ℕ, List, IfErr, IfOk};
 ghost use Rattle.history_event.specs.declared.event.Event.{Event};
 ghost use Rattle.library_source.specs.Count.{Rises};
-ghost use Rattle.trace_opens.specs.OpeningRows.Expected.{IsExpectedOpening, trace_run};
+ghost use Rattle.trace_opens.specs.OpeningRows.Expected.{IsExpectedOpening, MayFailSo, trace_run};
 ghost use Rattle.trace_opens.specs.declared.failed_paths.judging.Doubt.TheVariants.{ReadFault};
 ghost use Rattle.trace_replay.specs.Shown.{Shows};
 
@@ -22,7 +22,8 @@ use trace_replay::Replay;
 ///
 /// # Errors
 ///
-/// That the library failed to read a path, which its count shows, or want of memory.
+/// That the library failed to read a path, which its count shows, and to which the opening may come; or want of
+/// memory.
 pub fn expected_open<L: Library>(
     alloc: Global,
     replay: &Replay,
@@ -36,6 +37,8 @@ pub fn expected_open<L: Library>(
     ensures expected { IfOk result.0 (λ found. (past : List Event) → Shows past replay.now
         → IsExpectedOpening (trace_run replay.now.harts folders.now (L.files library)) past hart ask.now line.now found) }
     ensures failed { IfErr result.0 (λ doubt. (failed : List ℕ) → doubt ≡ ReadFault failed → Rises (L.faults library) (L.faults result.1)) }
+    ensures path { IfErr result.0 (λ doubt. (past : List Event) → Shows past replay.now
+        → MayFailSo (trace_run replay.now.harts folders.now (L.files library)) past hart ask.now doubt) }
     ensures files { L.files result.1 ≡ L.files library }
     ensures faults { L.faults library ≤ L.faults result.1 }
     ensures misses { L.misses library ≤ L.misses result.1 }

@@ -9,7 +9,7 @@ ghost use Rattle.history_state.specs.Setting.{Setting};
 ghost use Rattle.history_state.specs.Step.{namespace_before};
 ghost use Rattle.library_source.specs.Count.{Rises};
 ghost use Rattle.link_open_plan.specs.Before.{HasObjects, IsBefore};
-ghost use Rattle.trace_opens.specs.OpeningRows.Expected.{IsExpectedOpening, failed_path, trace_run};
+ghost use Rattle.trace_opens.specs.OpeningRows.Expected.{IsExpectedOpening, MayFailSo, failed_path, trace_run};
 ghost use Rattle.trace_opens.specs.declared.failed_paths.judging.Doubt.TheVariants.{ReadFault};
 ghost use Rattle.trace_replay.specs.Shown.{Shows};
 
@@ -52,6 +52,8 @@ pub(crate) fn expected_later<L: Library>(
     ensures expected { IfOk result.0 (λ found. (past : List Event) → Shows past replay.now
         → IsExpectedOpening (trace_run replay.now.harts folders.now (L.files library)) past hart ask.now line.now found) }
     ensures failed { IfErr result.0 (λ doubt. (failed : List ℕ) → doubt ≡ ReadFault failed → Rises (L.faults library) (L.faults result.1)) }
+    ensures path { IfErr result.0 (λ doubt. (past : List Event) → Shows past replay.now
+        → MayFailSo (trace_run replay.now.harts folders.now (L.files library)) past hart ask.now doubt) }
     ensures files { L.files result.1 ≡ L.files library }
     ensures faults { L.faults library ≤ L.faults result.1 }
     ensures misses { L.misses library ≤ L.misses result.1 }
@@ -92,6 +94,8 @@ fn expected_named<L: Library>(
     ensures expected { IfOk result.0 (λ found. (past : List Event) → Shows past replay.now
         → IsExpectedOpening (trace_run replay.now.harts folders.now (L.files library)) past hart ask.now line.now found) }
     ensures failed { IfErr result.0 (λ doubt. (failed : List ℕ) → doubt ≡ ReadFault failed → Rises (L.faults library) (L.faults result.1)) }
+    ensures path { IfErr result.0 (λ doubt. (past : List Event) → Shows past replay.now
+        → MayFailSo (trace_run replay.now.harts folders.now (L.files library)) past hart ask.now doubt) }
     ensures files { L.files result.1 ≡ L.files library }
     ensures faults { L.faults library ≤ L.faults result.1 }
     ensures misses { L.misses library ≤ L.misses result.1 }
@@ -128,6 +132,8 @@ fn expected_among<L: Library>(
     ensures expected { IfOk result.0 (λ found. (past : List Event) → Shows past replay.now
         → IsExpectedOpening (trace_run replay.now.harts folders.now (L.files library)) past hart ask.now line.now found) }
     ensures failed { IfErr result.0 (λ doubt. (failed : List ℕ) → doubt ≡ ReadFault failed → Rises (L.faults library) (L.faults result.1)) }
+    ensures path { IfErr result.0 (λ doubt. (past : List Event) → Shows past replay.now
+        → MayFailSo (trace_run replay.now.harts folders.now (L.files library)) past hart ask.now doubt) }
     ensures files { L.files result.1 ≡ L.files library }
     ensures faults { L.faults library ≤ L.faults result.1 }
     ensures misses { L.misses library ≤ L.misses result.1 }
@@ -162,6 +168,8 @@ fn expected_before<L: Library>(
     ensures expected { IfOk result.0 (λ found. (w : Setting) (past : List Event)
         → IsBefore w past ask.now name.now ns before.now folders.now (L.files library) → IsExpectedOpening w past hart ask.now line.now found) }
     ensures failed { IfErr result.0 (λ doubt. (failed : List ℕ) → doubt ≡ ReadFault failed → Rises (L.faults library) (L.faults result.1)) }
+    ensures path { IfErr result.0 (λ doubt. (w : Setting) (past : List Event)
+        → IsBefore w past ask.now name.now ns before.now folders.now (L.files library) → MayFailSo w past hart ask.now doubt) }
     ensures files { L.files result.1 ≡ L.files library }
     ensures faults { L.faults library ≤ L.faults result.1 }
     ensures misses { L.misses library ≤ L.misses result.1 }
@@ -196,6 +204,8 @@ fn planned_opening<L: Library>(
     ensures expected { IfOk result (λ found. (w : Setting) (past : List Event) (line : ALine) → failed_path line ≡ None
         → IsBefore w past ask.now name.now ns before.now folders.now (L.files library.old) → IsExpectedOpening w past hart ask.now line found) }
     ensures failed { IfErr result (λ doubt. (failed : List ℕ) → doubt ≡ ReadFault failed → Rises (L.faults library.old) (L.faults library.new)) }
+    ensures path { IfErr result (λ doubt. (w : Setting) (past : List Event)
+        → IsBefore w past ask.now name.now ns before.now folders.now (L.files library.old) → MayFailSo w past hart ask.now doubt) }
     ensures files { L.files library.new ≡ L.files library.old }
     ensures faults { L.faults library.old ≤ L.faults library.new }
     ensures misses { L.misses library.old ≤ L.misses library.new }

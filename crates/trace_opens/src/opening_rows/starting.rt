@@ -7,7 +7,7 @@ ghost use Rattle.history_state.specs.Asking.{IsStartupAsk};
 ghost use Rattle.history_calls.specs.Startup.{harts_of, program_ask};
 ghost use Rattle.library_source.specs.Count.{Rises};
 ghost use Rattle.link_open_plan.specs.Startup.{IsFirst, run_of};
-ghost use Rattle.trace_opens.specs.OpeningRows.Expected.{IsExpectedOpening, failed_path, trace_run};
+ghost use Rattle.trace_opens.specs.OpeningRows.Expected.{IsExpectedOpening, MayFailSo, failed_path, trace_run};
 ghost use Rattle.trace_opens.specs.OpeningRows.Startup.{IsExpectedFirst, IsSetupOf};
 ghost use Rattle.trace_opens.specs.declared.failed_paths.judging.Doubt.TheVariants.{Memory, ReadFault};
 ghost use Rattle.trace_replay.specs.Shown.{Shows};
@@ -50,6 +50,8 @@ pub(crate) fn expected_first<L: Library>(
     ensures expected { IfOk result.0 (λ found. (past : List Event) → Shows past replay.now
         → IsExpectedOpening (trace_run replay.now.harts folders.now (L.files library)) past hart ask.now line.now found) }
     ensures failed { IfErr result.0 (λ doubt. (failed : List ℕ) → doubt ≡ ReadFault failed → Rises (L.faults library) (L.faults result.1)) }
+    ensures path { IfErr result.0 (λ doubt. (past : List Event) → Shows past replay.now
+        → MayFailSo (trace_run replay.now.harts folders.now (L.files library)) past hart ask.now doubt) }
     ensures files { L.files result.1 ≡ L.files library }
     ensures faults { L.faults library ≤ L.faults result.1 }
     ensures misses { L.misses library ≤ L.misses result.1 }
@@ -122,6 +124,7 @@ fn expected_program<L: Library>(
     requires ask { ask.now ≡ program_ask setup.now }
     ensures expected { IfOk result.0 (IsExpectedFirst (run_of setup.now (L.files library)) ask.now line.now) }
     ensures failed { IfErr result.0 (λ doubt. (failed : List ℕ) → doubt ≡ ReadFault failed → Rises (L.faults library) (L.faults result.1)) }
+    ensures path { IfErr result.0 (MayFailSo (run_of setup.now (L.files library)) [] 0 ask.now) }
     ensures files { L.files result.1 ≡ L.files library }
     ensures faults { L.faults library ≤ L.faults result.1 }
     ensures misses { L.misses library ≤ L.misses result.1 }
@@ -175,6 +178,7 @@ fn planned_program<L: Library>(
     ensures expected { IfOk result (λ found. (line : ALine) → failed_path line ≡ None
         → IsExpectedFirst (run_of setup.now (L.files library.old)) ask.now line found) }
     ensures failed { IfErr result (λ doubt. (failed : List ℕ) → doubt ≡ ReadFault failed → Rises (L.faults library.old) (L.faults library.new)) }
+    ensures path { IfErr result (MayFailSo (run_of setup.now (L.files library.old)) [] 0 ask.now) }
     ensures files { L.files library.new ≡ L.files library.old }
     ensures faults { L.faults library.old ≤ L.faults library.new }
     ensures misses { L.misses library.old ≤ L.misses library.new }

@@ -1,6 +1,5 @@
 use Rattle.std.proofs.Common.{sym, ◌∙◌}
 use Rattle.history_calls.specs.Laws.{long, flags}
-use Rattle.trace_opens.proofs.OpeningRows.Judged.{of_namespace}
 use Rattle.trace_opens.proofs.opening_rows.asking.judge.Goals as goal
 
 pub returns-then-is_too_long : goal.returns-then-is_too_long
@@ -17,6 +16,6 @@ returns-then-not-are_flags c = λ s started are. record {
 
 pub returns-in-Err : goal.returns-in-Err
 returns-in-Err c = λ s started are. record {
-  refuses = of_namespace s c.args.ask.now c.in-Err.fault (sym (c.is_too_long.ensures s started) ∙ c.if-is_too_long.false) (sym c.are_flags.ensures ∙ c.if-not-are_flags.false) (c.in-Err.ensures.refused s are);
+  refuses = c.in-Err.ensures.refused s are (sym (c.is_too_long.ensures s started) ∙ c.if-is_too_long.false) (sym c.are_flags.ensures ∙ c.if-not-are_flags.false);
   known = c.is_overlong.ensures.no c.if-is_overlong.false;
 }

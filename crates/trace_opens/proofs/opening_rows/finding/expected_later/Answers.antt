@@ -1,12 +1,15 @@
-use Rattle.std.proofs.Common.{◌≡◌, ℕ, [], Some, false, sym, ap, subst, ◌∙◌}
+use Rattle.std.proofs.Common.{◌≡◌, ℕ, List, [], Some, false, sym, ap, subst, ◌∙◌}
+use Rattle.history_event.specs.declared.event.Event.{Event}
 use Rattle.history_event.specs.declared.event.OpenAnswer.TheVariants.{Done}
 use Rattle.history_event.specs.declared.handed.Opening.{Opening}
 use Rattle.history_journal.specs.Following.{machine_of}
 use Rattle.history_state.specs.After.{after}
 use Rattle.history_state.specs.Objects.{is_startup}
-use Rattle.trace_opens.specs.OpeningRows.Expected.{IsExpectedOpening, trace_run}
+use Rattle.trace_opens.specs.OpeningRows.Expected.{IsExpectedOpening, MayFailSo, trace_run}
+use Rattle.trace_opens.proofs.FailedPaths.Plans.{err_memory}
 use Rattle.trace_opens.proofs.OpeningRows.Answered.{if_ok}
 use Rattle.trace_opens.proofs.OpeningRows.Later.{expects_program, expects_refusal}
+use Rattle.trace_replay.specs.Shown.{Shows}
 use Rattle.trace_opens.proofs.opening_rows.finding.expected_later.Goals as goal
 
 pub returns-in-Refused-clause-expected : goal.returns-in-Refused-clause-expected
@@ -27,3 +30,13 @@ returns-in-None-clause-expected g c = if_ok c.there_opening.result (λ found is 
     (expects_program w past c.args.hart c.args.ask.now started c.args.line.now c.in-In.ns c.in-None.is
     (c.in-In.ensures (after past) started (sym shows.state.namespaces ∙ sym c.namespaces.ensures)) (c.program_stays.ensures (machine_of c.args.replay.now.harts) past shows.lawful started)))
     c.there_opening.ensures.found
+
+pub returns-in-Refused-clause-path : goal.returns-in-Refused-clause-path
+returns-in-Refused-clause-path g c =
+    err_memory (λ doubt. (past : List Event) → Shows past c.args.replay.now → MayFailSo (trace_run c.args.replay.now.harts c.args.folders.now (g.L.Library.files c.args.library)) past c.args.hart c.args.ask.now doubt)
+    (λ past shows. tt) c.refused_opening.result c.refused_opening.ensures.memory
+
+pub returns-in-None-clause-path : goal.returns-in-None-clause-path
+returns-in-None-clause-path g c =
+    err_memory (λ doubt. (past : List Event) → Shows past c.args.replay.now → MayFailSo (trace_run c.args.replay.now.harts c.args.folders.now (g.L.Library.files c.args.library)) past c.args.hart c.args.ask.now doubt)
+    (λ past shows. tt) c.there_opening.result c.there_opening.ensures.memory

@@ -3,7 +3,7 @@ use Rattle.history_event.specs.declared.event.OpenAsk.{OpenAsk}
 use Rattle.history_event.specs.declared.handed.Opening.{Opening}
 use Rattle.history_state.specs.After.{after}
 use Rattle.trace_opens.specs.OpeningRows.Expected.{IsExpectedOpening, planned, unplanned}
-use Rattle.trace_opens.proofs.FailedPaths.Plans.{may_ask}
+use Rattle.trace_opens.proofs.FailedPaths.Plans.{fails_err, if_err, may_ask}
 use Rattle.trace_opens.proofs.OpeningRows.Answered.{both_ok, expects_none, expects_plan}
 use Rattle.trace_opens.proofs.opening_rows.finding.planned_opening.Goals as goal
 
@@ -19,3 +19,8 @@ returns-in-Err-clause-expected g c = both_ok c.unplanned.result (λ found is cer
     (expects_none w past c.args.hart c.args.ask.now c.args.name.now c.args.ns (may_ask (after past) c.args.hart c.args.ask.now before.made.started) before.made.named
     c.one_answer.ensures.openings line read c.in-Err.why certain (c.in-Err.ensures.unopened w past c.args.ns before)))
     c.unplanned.ensures.found c.unplanned.ensures.certain
+
+pub returns-in-Err-clause-path : goal.returns-in-Err-clause-path
+returns-in-Err-clause-path g c = if_err c.unplanned.result (λ doubt failed w past before.
+    fails_err w past c.args.hart c.args.ask.now c.in-Err.why (may_ask (after past) c.args.hart c.args.ask.now before.made.started) (c.in-Err.ensures.unopened w past c.args.ns before) doubt failed)
+    c.unplanned.ensures.failed

@@ -5,7 +5,8 @@ use Rattle.history_state.specs.After.{after}
 use Rattle.history_calls.specs.Startup.{program_ask}
 use Rattle.link_open_plan.specs.Planned.{IsUnopened, PlansNew}
 use Rattle.link_open_plan.specs.Startup.{run_of}
-use Rattle.trace_opens.specs.OpeningRows.Expected.{IsExpectedOpening, brought, unplanned}
+use Rattle.trace_opens.specs.OpeningRows.Expected.{IsExpectedOpening, MayFailSo, brought, unplanned}
+use Rattle.trace_opens.proofs.FailedPaths.Plans.{fails_err, if_err, start_ask}
 use Rattle.trace_opens.proofs.OpeningRows.Answered.{both_ok}
 use Rattle.trace_opens.proofs.OpeningRows.First.{first_none, first_plan}
 use Rattle.trace_opens.proofs.opening_rows.starting.planned_program.Goals as goal
@@ -28,3 +29,11 @@ returns-in-Err-clause-expected g c = both_ok c.unplanned.result (λ found is cer
     (first_none c.one_answer.ensures.openings w c.args.setup.now line read c.in-Err.why certain
     (subst (λ (a : OpenAsk). IsUnopened w (after []) 0 a c.in-Err.why) c.requires.ask c.in-Err.ensures.unopened))))
     c.unplanned.ensures.found c.unplanned.ensures.certain
+
+pub returns-in-Err-clause-path : goal.returns-in-Err-clause-path
+returns-in-Err-clause-path g c = if_err c.unplanned.result (λ doubt failed.
+    let w = run_of c.args.setup.now (g.L.Library.files c.args.library.now) in
+    subst (λ (a : OpenAsk). MayFailSo w [] 0 a doubt) (sym c.requires.ask)
+    (fails_err w [] 0 (program_ask c.args.setup.now) c.in-Err.why (λ begins. start_ask c.args.setup.now)
+    (subst (λ (a : OpenAsk). IsUnopened w (after []) 0 a c.in-Err.why) c.requires.ask c.in-Err.ensures.unopened) doubt failed))
+    c.unplanned.ensures.failed
