@@ -1,78 +1,27 @@
 -- Lines that name harts.
-use Rattle.std.proofs.Common.{◌≡◌, ◌⊎◌, inl, inr, ⊎_elim, ℕ, ◌+◌, ◌<◌, ◌≤◌, Bool, true, false, not, ◌==◌, List, [], ◌∷◌, length, get_or, drop, map, drop-cons, add-one, refl, sym, ap, subst, ◌∙◌, arith, if◌then◌else◌}
+use Rattle.std.proofs.Common.{◌≡◌, inl, inr, ℕ, ◌+◌, ◌<◌, ◌≤◌, true, false, List, [], ◌∷◌, length, get_or, drop, map, drop-cons, add-one, refl, sym, ap, subst, ◌∙◌, arith}
 use Rattle.std.specs.Prelude.{IsTrue}
+use Rattle.std.proofs.lemmas.Bool.{true≢false}
 use Rattle.std.proofs.lemmas.List.{drop_all}
 use Rattle.history_event.specs.declared.event_line.EventLine.{EventLine}
 use Rattle.history_event.specs.declared.event_line.EventLine.TheVariants as lines
-use Rattle.trace_check.specs.Harts.{IsNoEvent, NameHarts, ends_start, names_hart}
+use Rattle.trace_check.specs.Harts.{NameHarts, ends_start, names_hart}
 use Rattle.trace_check.specs.Harts.NameHarts.{is_over, names, no_more, other, passed}
-use Rattle.trace_check.specs.Parts.{IsEventsPart, IsPartOf, part_of}
+use Rattle.trace_check.specs.Parts.{IsPart, IsPartOf}
 use Rattle.trace_check.specs.declared.harts.Part.{Part}
 use Rattle.trace_check.specs.declared.harts.Part.TheVariants as parts
 use Rattle.trace_read.specs.Laws.{OneSaying}
 
-abbrev ends_in : Part → Bool
-ends_in p = elim p [ parts.Over ↦ true | _ ↦ false ]
-
-abbrev names_in : Part → Bool
-names_in p = elim p [ parts.Hart ↦ true | _ ↦ false ]
-
-no_end : (b : Bool) → ends_in (if b then parts.Other else parts.Hart) ≡ false
-no_end true = refl
-no_end false = refl
-
-named : (b : Bool) → names_in (if b then parts.Other else parts.Hart) ≡ not b
-named true = refl
-named false = refl
-
-ends_so : (e : EventLine) → ends_in (part_of e) ≡ ends_start e
-ends_so (lines.Open hart ask answer) = refl
-ends_so (lines.Close hart handle answer) = refl
-ends_so (lines.Unmapped hart set) = refl
-ends_so (lines.Grant grant hart owner slot choice value) = refl
-ends_so (lines.Bound grant) = refl
-ends_so (lines.Lost grant saw) = refl
-ends_so (lines.Unresolved hart owner slot choice) = refl
-ends_so (lines.Sym hart ask answer) = no_end (hart == 0)
-ends_so (lines.Tls hart owner address) = refl
-ends_so (lines.Init hart object) = refl
-ends_so (lines.Fini hart object) = refl
-ends_so (lines.Wrote hart bytes) = refl
-ends_so (lines.Told hart fault) = refl
-ends_so (lines.Ended hart reason) = refl
-
-names_so : (e : EventLine) → names_in (part_of e) ≡ names_hart e
-names_so (lines.Open hart ask answer) = refl
-names_so (lines.Close hart handle answer) = refl
-names_so (lines.Unmapped hart set) = refl
-names_so (lines.Grant grant hart owner slot choice value) = refl
-names_so (lines.Bound grant) = refl
-names_so (lines.Lost grant saw) = refl
-names_so (lines.Unresolved hart owner slot choice) = refl
-names_so (lines.Sym hart ask answer) = named (hart == 0)
-names_so (lines.Tls hart owner address) = refl
-names_so (lines.Init hart object) = refl
-names_so (lines.Fini hart object) = refl
-names_so (lines.Wrote hart bytes) = refl
-names_so (lines.Told hart fault) = refl
-names_so (lines.Ended hart reason) = refl
-
-not_over : parts.Over ≡ parts.Other → ⊥
-not_over e = let d : true ≡ false = ap ends_in e in absurd cc
-
-not_hart : parts.Hart ≡ parts.Other → ⊥
-not_hart e = let d : true ≡ false = ap names_in e in absurd cc
-
 pub over : (line : List ℕ) (rest : List (List ℕ)) → IsPartOf line parts.Over → NameHarts (line ∷ rest) 0
-over line rest (inl x) = is_over line rest x.event x.has (sym (ends_so x.event) ∙ ap ends_in x.is)
-over line rest (inr x) = absurd (not_over x.1)
+over line rest (inl x) = is_over line rest x.event x.has x.is
+over line rest (inr x) = let d : parts.Over ≡ parts.Other = x.1 in absurd cc
 
 pub counted : (line : List ℕ) (rest : List (List ℕ)) (count : ℕ) → IsPartOf line parts.Hart → NameHarts rest count → NameHarts (line ∷ rest) (count + 1)
-counted line rest count (inl x) more = names line rest x.event count x.has (sym (names_so x.event) ∙ ap names_in x.is) more
-counted line rest count (inr x) more = absurd (not_hart x.1)
+counted line rest count (inl x) more = names line rest x.event count x.has x.is more
+counted line rest count (inr x) more = let d : parts.Hart ≡ parts.Other = x.1 in absurd cc
 
 pub skipped : (line : List ℕ) (rest : List (List ℕ)) (count : ℕ) → IsPartOf line parts.Other → NameHarts rest count → NameHarts (line ∷ rest) count
-skipped line rest count (inl x) more = other line rest x.event count x.has (sym (ends_so x.event) ∙ ap ends_in x.is) (sym (names_so x.event) ∙ ap names_in x.is) more
+skipped line rest count (inl x) more = other line rest x.event count x.has x.is.0 x.is.1 more
 skipped line rest count (inr x) more = passed line rest count x.0 more
 
 -- ---- lines so far
@@ -108,20 +57,21 @@ at_end f xs k count all behind =
 
 -- ---- one count
 
-over_back : (p : Part) → ends_in p ≡ true → p ≡ parts.Over
-over_back parts.Over e = refl
-over_back parts.Hart e = let d : false ≡ true = e in absurd cc
-over_back parts.Other e = let d : false ≡ true = e in absurd cc
+not_both : (e : EventLine) → IsTrue (ends_start e) → IsTrue (names_hart e) → ⊥
+not_both (lines.Init hart object) ends named = let d : false ≡ true = named in absurd cc
+not_both (lines.Ended hart reason) ends named = let d : false ≡ true = named in absurd cc
+not_both event ends named = let d : false ≡ true = ends in absurd cc
 
-hart_back : (p : Part) → names_in p ≡ true → p ≡ parts.Hart
-hart_back parts.Over e = let d : false ≡ true = e in absurd cc
-hart_back parts.Hart e = refl
-hart_back parts.Other e = let d : false ≡ true = e in absurd cc
-
-other_back : (p : Part) → ends_in p ≡ false → names_in p ≡ false → p ≡ parts.Other
-other_back parts.Over e d = let f : true ≡ false = e in absurd cc
-other_back parts.Hart e d = let f : true ≡ false = d in absurd cc
-other_back parts.Other e d = refl
+same_part : (e : EventLine) (p q : Part) → IsPart e p → IsPart e q → p ≡ q
+same_part e parts.Over parts.Over x y = refl
+same_part e parts.Over parts.Hart x y = absurd (not_both e x y)
+same_part e parts.Over parts.Other x y = absurd (true≢false (sym x ∙ y.0))
+same_part e parts.Hart parts.Over x y = absurd (not_both e y x)
+same_part e parts.Hart parts.Hart x y = refl
+same_part e parts.Hart parts.Other x y = absurd (true≢false (sym x ∙ y.1))
+same_part e parts.Other parts.Over x y = absurd (true≢false (sym y ∙ x.0))
+same_part e parts.Other parts.Hart x y = absurd (true≢false (sym y ∙ x.1))
+same_part e parts.Other parts.Other x y = refl
 
 -- what lines name, by what the first of them is
 abbrev NamesBy : Part → List (List ℕ) → ℕ → Type 0
@@ -135,14 +85,14 @@ record NamesWith (line : List ℕ) (rest : List (List ℕ)) (count : ℕ) : Type
   pub by : NamesBy part rest count
 
 names_with : (line : List ℕ) (rest : List (List ℕ)) (count : ℕ) → NameHarts (line ∷ rest) count → NamesWith line rest count
-names_with line rest count (is_over _ _ event has ends) = record { part = parts.Over; of = inl (record { event = event; has = has; is = over_back (part_of event) (ends_so event ∙ ends) }); by = refl }
-names_with line rest count (names _ _ event less has named more) = record { part = parts.Hart; of = inl (record { event = event; has = has; is = hart_back (part_of event) (names_so event ∙ named) }); by = (less, more, refl) }
+names_with line rest count (is_over _ _ event has ends) = record { part = parts.Over; of = inl (record { event = event; has = has; is = ends }); by = refl }
+names_with line rest count (names _ _ event less has named more) = record { part = parts.Hart; of = inl (record { event = event; has = has; is = named }); by = (less, more, refl) }
 names_with line rest count (other _ _ event _ has no_ends no_hart more) =
-    record { part = parts.Other; of = inl (record { event = event; has = has; is = other_back (part_of event) (ends_so event ∙ no_ends) (names_so event ∙ no_hart) }); by = more }
+    record { part = parts.Other; of = inl (record { event = event; has = has; is = (no_ends, no_hart) }); by = more }
 names_with line rest count (passed _ _ _ none more) = record { part = parts.Other; of = inr (none, refl); by = more }
 
 one_part : OneSaying → (line : List ℕ) (p q : Part) → IsPartOf line p → IsPartOf line q → p ≡ q
-one_part law line p q (inl x) (inl y) = sym x.is ∙ ap part_of (law line x.event y.event x.has y.has) ∙ y.is
+one_part law line p q (inl x) (inl y) = same_part y.event p q (subst (λ e. IsPart e p) (law line x.event y.event x.has y.has) x.is) y.is
 one_part law line p q (inl x) (inr y) = absurd (y.0 x.event x.has)
 one_part law line p q (inr x) (inl y) = absurd (x.0 y.event y.has)
 one_part law line p q (inr x) (inr y) = x.1 ∙ sym y.1

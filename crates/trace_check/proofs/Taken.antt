@@ -1,5 +1,5 @@
 -- Lines taken in one after another.
-use Rattle.std.proofs.Common.{◌≡◌, ℕ, ◌+◌, ◌<◌, ◌≤◌, List, [], ◌∷◌, ◌++◌, length, get_or, take, drop, map, suc, length-take, drop-cons, add-one, Option, Some, None, Result, Ok, Err, refl, sym, ap, subst, ◌∙◌, arith}
+use Rattle.std.proofs.Common.{◌≡◌, inl, inr, ℕ, ◌+◌, ◌<◌, List, [], ◌∷◌, ◌++◌, length, get_or, take, drop, map, suc, drop-cons, add-one, Option, Some, None, Result, Ok, Err, refl, sym, ap, subst, ◌∙◌, arith}
 use Rattle.std.specs.Prelude.{IfErr, IfSome}
 use Rattle.std.specs.List.{AllZip}
 use Rattle.std.proofs.lemmas.Grind.{common_steps}
@@ -13,10 +13,10 @@ use Rattle.history_event.specs.declared.event_line.OpenLine.{OpenLine}
 use Rattle.history_state.specs.Allowed.{Allowed}
 use Rattle.history_state.specs.Legal.{Legal}
 use Rattle.history_state.specs.Setting.{Setting}
-use Rattle.trace_check.specs.Judged.{IsIllegal, Judged, Says, at}
-use Rattle.trace_check.specs.Judged.Judged.{no_line, not_allowed}
+use Rattle.trace_check.specs.Judged.{Judged, MayFailAt, MayFailIn, at}
+use Rattle.trace_check.specs.Judged.Judged.{no_line, not_allowed, undecided}
 use Rattle.trace_check.specs.Lines.{Lines}
-use Rattle.trace_check.specs.Rows.{AreTaken, IsChecked, IsPassed, IsTold}
+use Rattle.trace_check.specs.Rows.{AreTaken, IsChecked, IsPassed}
 use Rattle.trace_check.specs.declared.verdict.TraceCause.{TraceCause}
 use Rattle.trace_check.specs.declared.verdict.TraceCause.TheVariants as causes
 use Rattle.trace_read.specs.Lines.{HasLine}
@@ -56,16 +56,29 @@ around xs k x inside is =
 
 pub stops : (w : Setting) (lines : List (List ℕ)) (k : ℕ) (line : List ℕ) (l new : Table) (cause : TraceCause) → k < length lines → line ≡ get_or lines k line
     → AreTaken w (take k lines) l → ((past : List Event) → Shows past l → IsChecked w past line new (Some cause))
-    → (t : Lines) → t.events ≡ lines → IsTold w → Judged w t (at (k + 1) cause)
-stops w lines k line l new cause inside is are checks t same told =
+    → (t : Lines) → t.events ≡ lines → Judged w t (at (k + 1) cause)
+stops w lines k line l new cause inside is are checks t same =
     let front : length (take k lines) ≡ k = grind (arith, common_steps) in
     subst (λ n. Judged w t (at (n + 1) cause)) front (by cause (checks are.events are.shows))
   where
     by : (cause : TraceCause) → IsChecked w are.events line new (Some cause) → Judged w t (at (length (take k lines) + 1) cause)
     by causes.NotALine none = no_line (take k lines) (drop (k + 1) lines) line are.events (same ∙ around lines k line inside is) are.says none
-    by causes.Illegal none = not_allowed (take k lines) (drop (k + 1) lines) line are.events (same ∙ around lines k line inside is) are.says (none told)
+    by causes.Illegal (inl none) = not_allowed (take k lines) (drop (k + 1) lines) line are.events (same ∙ around lines k line inside is) are.says none
+    by causes.Illegal (inr left) = undecided (take k lines) (drop (k + 1) lines) line are.events (same ∙ around lines k line inside is) are.says left
     by causes.NotWhole none = absurd none
     by causes.NoEnd none = absurd none
+
+pub fails_at : (w : Setting) (lines : List (List ℕ)) (k : ℕ) (line : List ℕ) (l : Table) (path : List ℕ) → k < length lines → line ≡ get_or lines k line
+    → AreTaken w (take k lines) l → ((past : List Event) → Shows past l → MayFailIn w past line path) → (t : Lines) → t.events ≡ lines → MayFailAt w t path
+fails_at w lines k line l path inside is are fails t same = record {
+  before = take k lines;
+  behind = drop (k + 1) lines;
+  line = line;
+  events = are.events;
+  are = same ∙ around lines k line inside is;
+  says = are.says;
+  may = fails are.events are.shows;
+}
 
 -- ---- the line of an opening
 

@@ -1,5 +1,5 @@
 -- Events by what their lines say of them.
-use Rattle.std.proofs.Common.{◌≡◌, ◌⊎◌, inl, inr, ⊎_elim, ℕ, false, List, [], ◌∷◌, map, Option, Some, None, refl, sym, ap, subst, ◌∙◌}
+use Rattle.std.proofs.Common.{◌≡◌, ◌⊎◌, inl, inr, ℕ, false, List, [], ◌∷◌, Option, Some, None, refl, sym, ap, subst, ◌∙◌}
 use Rattle.ld_base.specs.declared.linking.File.{File}
 use Rattle.ld_base.specs.declared.linking.Loaded.{Loaded}
 use Rattle.history_event.specs.declared.event.Event.{Event}
@@ -9,18 +9,17 @@ use Rattle.history_event.specs.declared.event.OpenAsk.{OpenAsk}
 use Rattle.history_event.specs.declared.event.Range.{Range}
 use Rattle.history_event.specs.declared.event_line.EventLine.{EventLine}
 use Rattle.history_event.specs.declared.event_line.EventLine.TheVariants as lines
-use Rattle.history_event.specs.declared.event_line.NewLine.{NewLine}
 use Rattle.history_event.specs.declared.event_line.OpenLine.{OpenLine}
 use Rattle.history_event.specs.declared.event_line.OpenLine.TheVariants as opens
 use Rattle.history_state.specs.Allowed.{Allowed}
 use Rattle.history_state.specs.Setting.{Setting}
 use Rattle.history_calls.specs.Answer.{Answer, loading, returns}
 use Rattle.history_calls.specs.Call as call
-use Rattle.history_calls.specs.Gives.{EventAnswers, Gives}
+use Rattle.history_calls.specs.Gives.{EventAnswers}
 use Rattle.history_calls.specs.Gives.EventAnswers.{is_loaded, is_there}
 use Rattle.history_calls.specs.Gives.Gives.{by_event}
 use Rattle.history_calls.specs.Laws.{OneOpening, is_chance}
-use Rattle.trace_read.specs.Said.{said_of, said_of_new}
+use Rattle.trace_read.specs.Said.{said_of}
 
 -- the event that a line says, where it says all of it
 abbrev unsaid_open : ℕ → OpenAsk → OpenLine → Option Event

@@ -1,18 +1,17 @@
 -- Where files are told, a text has one verdict.
-use Rattle.std.proofs.Common.{◌≡◌, ◌≢◌, ◌⊎◌, inl, inr, ⊎_elim, ℕ, zero, suc, ◌+◌, ◌<◌, ◌≤◌, Bool, true, false, List, [], ◌∷◌, ◌++◌, length, take, Option, Some, None, refl, sym, ap, ap₂, subst, ◌∙◌, arith, append_assoc, append-nil}
+use Rattle.std.proofs.Common.{◌≡◌, ◌≢◌, ◌⊎◌, inl, inr, ℕ, suc, ◌+◌, true, false, List, [], ◌∷◌, ◌++◌, length, take, Option, Some, None, refl, sym, ap, ap₂, subst, ◌∙◌, append_assoc, append-nil}
 use Rattle.std.specs.Prelude.{IsSome}
-use Rattle.std.specs.List.{All, AllByRecursion, AllZip, Contains, flat_map, slice_get}
+use Rattle.std.specs.List.{AllByRecursion, AllZip, Contains, flat_map, slice_get}
 use Rattle.std.proofs.lemmas.List.Elements.{Contains-append_left, Contains-append_right, Contains-push, recursion_from_All}
 use Rattle.ld_base.specs.declared.linking.File.{File}
 use Rattle.history_event.specs.declared.event.Event.{Event}
-use Rattle.history_event.specs.declared.event_line.EventLine.{EventLine}
 use Rattle.history_state.specs.Allowed.{Allowed}
 use Rattle.history_state.specs.Legal.{Legal, Whole}
 use Rattle.history_state.specs.Setting.{Setting}
 use Rattle.trace_check.specs.Harts.{IsNoEvent, NameHarts}
-use Rattle.trace_check.specs.Judged.{IsIllegal, IsJudged, Judged, Says, Verdict, at, legal}
+use Rattle.trace_check.specs.Judged.{IsIllegal, Judged, Says, Verdict, at, legal}
 use Rattle.trace_check.specs.Laws.{OneEvent, OneVerdict}
-use Rattle.trace_check.specs.Lines.{AreLines, EndsIn, HasNoFeed, IsBefore, IsLast, IsLine, Lines, bytes_of, is_end}
+use Rattle.trace_check.specs.Lines.{AreLines, EndsIn, HasNoFeed, IsBefore, IsLine, Lines, bytes_of, is_end}
 use Rattle.trace_check.specs.declared.verdict.TraceCause.{TraceCause}
 use Rattle.trace_check.specs.declared.verdict.TraceCause.TheVariants as causes
 use Rattle.trace_opens.specs.OpeningRows.Expected.{trace_run}
@@ -301,6 +300,7 @@ module _ (w : Setting) (files : List File) (told : w.files ≡ Some files) (one_
       stops causes.NotALine (length before) (record { before = before; behind = behind; line = line; events = events; is = is; says = says; why = no_event none; counts = refl })
   comes t v (Judged.not_allowed before behind line events is says not) =
       stops causes.Illegal (length before) (record { before = before; behind = behind; line = line; events = events; is = is; says = says; why = may_not not; counts = refl })
+  comes t v (Judged.undecided before behind line events is says left) = let d : Some files ≡ None = sym told ∙ left.lacks.none in absurd cc
   comes t v (Judged.is_cut events says none some) = ends events _ says (is_cut events (length t.events) t.last t.rest none some)
   comes t v (Judged.no_end events says none empty) = ends events _ says (no_end events (length t.events) t.last t.rest none empty)
   comes t v (Judged.not_whole events says some not) = ends events _ says (not_whole events (length t.events) t.last t.rest some not)

@@ -1,22 +1,20 @@
 -- What a line is to the start of a run. For the code of this crate alone.
-use Rattle.std.specs.Prelude.{◌≡◌, ℕ, ◌⊎◌, ◌==◌, List, if◌then◌else◌}
+use Rattle.std.specs.Prelude.{◌≡◌, ◌⊎◌, ℕ, false, List, IsTrue}
 use Rattle.history_event.specs.declared.event_line.EventLine.{EventLine}
-use Rattle.history_event.specs.declared.event_line.EventLine.TheVariants as lines
-use Rattle.trace_check.specs.Harts.{IsNoEvent}
+use Rattle.trace_check.specs.Harts.{IsNoEvent, ends_start, names_hart}
 use Rattle.trace_check.specs.declared.harts.Part.{Part}
 use Rattle.trace_check.specs.declared.harts.Part.TheVariants as parts
 use Rattle.trace_read.specs.Lines.{HasLine}
 
-abbrev pub part_of : EventLine → Part
-part_of (lines.Init hart object) = parts.Over
-part_of (lines.Ended hart reason) = parts.Over
-part_of (lines.Sym hart ask answer) = if hart == 0 then parts.Other else parts.Hart
-part_of other = parts.Other
+abbrev pub IsPart : EventLine → Part → Type 0
+IsPart event parts.Over = IsTrue (ends_start event)
+IsPart event parts.Hart = IsTrue (names_hart event)
+IsPart event parts.Other = (ends_start event ≡ false) × (names_hart event ≡ false)
 
 pub record IsEventsPart (line : List ℕ) (part : Part) : Type 0 where
   pub event : EventLine
   pub has : HasLine line event
-  pub is : part_of event ≡ part
+  pub is : IsPart event part
 
 abbrev pub IsPartOf : List ℕ → Part → Type 0
 IsPartOf line part = IsEventsPart line part ⊎ (IsNoEvent line × (part ≡ parts.Other))

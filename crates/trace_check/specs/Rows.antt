@@ -1,13 +1,12 @@
 -- Lines taken in one after another. For the code of this crate alone.
-use Rattle.std.specs.Prelude.{◌≡◌, ℕ, ◌+◌, ◌==◌, Bool, true, false, if◌then◌else◌, List, [], ◌∷◌, ◌++◌, length, Option, Some, None, Result, Ok, Err}
-use Rattle.ld_base.specs.declared.linking.File.{File}
+use Rattle.std.specs.Prelude.{◌≡◌, ◌⊎◌, ℕ, ◌+◌, ◌==◌, Bool, true, false, if◌then◌else◌, List, [], ◌∷◌, ◌++◌, length, Option, Some, None, Result, Ok, Err}
 use Rattle.history_event.specs.declared.event.Event.{Event}
 use Rattle.history_event.specs.declared.event_line.EventLine.{EventLine}
 use Rattle.history_event.specs.declared.handed.Opening.{Opening}
 use Rattle.history_state.specs.Allowed.{Allowed}
 use Rattle.history_state.specs.Setting.{Setting}
 use Rattle.trace_check.specs.Harts.{IsNoEvent, NameHarts}
-use Rattle.trace_check.specs.Judged.{IsIllegal, Judged, Says, at}
+use Rattle.trace_check.specs.Judged.{IsIllegal, IsUndecided, Judged, MayFailAt, MayFailIn, Says, at}
 use Rattle.trace_check.specs.Lines.{Lines}
 use Rattle.trace_check.specs.declared.verdict.CheckFault.{CheckFault}
 use Rattle.trace_check.specs.declared.verdict.CheckFault.TheVariants as faults
@@ -21,10 +20,6 @@ use Rattle.trace_replay.specs.Lists.{Lists}
 use Rattle.trace_replay.specs.Shown.{Shows}
 use Rattle.trace_replay.specs.Taken.{AreChosen, Follows, Takes, event_of}
 
--- files are told
-abbrev pub IsTold : Setting → Type 0
-IsTold w = (files : List File) × (w.files ≡ Some files)
-
 -- ---- one line
 
 -- an event that says so may come, and the lists are those behind it
@@ -34,10 +29,10 @@ pub record IsTaken (w : Setting) (past : List Event) (said : EventLine) (new : L
   pub may : Allowed w past event
   pub shows : Shows (past ++ event ∷ []) new
 
--- it is taken in where it may come; else none that says so may, where files are told
+-- it is taken in where it may come; else none that says so may, or that is undecided
 abbrev pub ComesOf : Setting → List Event → EventLine → Lists → Bool → Type 0
 ComesOf w past said new true = IsTaken w past said new
-ComesOf w past said new false = IsTold w → (e : Event) → said_of e ≡ said → ¬ (Allowed w past e)
+ComesOf w past said new false = ((e : Event) → said_of e ≡ said → ¬ (Allowed w past e)) ⊎ ((line : List ℕ) → HasLine line said → IsUndecided w past line)
 
 -- an event has the line, and is taken in
 pub record IsPassed (w : Setting) (past : List Event) (line : List ℕ) (new : Lists) : Type 0 where
@@ -49,9 +44,14 @@ pub record IsPassed (w : Setting) (past : List Event) (line : List ℕ) (new : L
 abbrev pub IsChecked : Setting → List Event → List ℕ → Lists → Option TraceCause → Type 0
 IsChecked w past line new None = IsPassed w past line new
 IsChecked w past line new (Some causes.NotALine) = IsNoEvent line
-IsChecked w past line new (Some causes.Illegal) = IsTold w → IsIllegal w past line
+IsChecked w past line new (Some causes.Illegal) = IsIllegal w past line ⊎ IsUndecided w past line
 IsChecked w past line new (Some causes.NotWhole) = ⊥
 IsChecked w past line new (Some causes.NoEnd) = ⊥
+
+-- or a read failed that may fail at it
+abbrev pub IsDoubtOf : Setting → List Event → List ℕ → Doubt → Type 0
+IsDoubtOf w past line (doubts.ReadFault path) = MayFailIn w past line path
+IsDoubtOf w past line doubts.Memory = Unit {0}
 
 -- why the line of a number is refused, once it is checked
 abbrev pub IsOfLine : ℕ → Result (Option TraceCause) Doubt → CheckFault → Type 0
@@ -91,20 +91,14 @@ pub record AreTaken (w : Setting) (lines : List (List ℕ)) (l : Lists) : Type 0
   pub says : Says w lines events
   pub shows : Shows events l
 
--- a text with these lines is refused so, where files are told
+-- a text with these lines is refused so, or a read failed that may fail at one of them
 abbrev pub StopsAs : Setting → Lines → CheckFault → Type 0
-StopsAs w t (faults.At number cause) = IsTold w → Judged w t (at number cause)
-StopsAs w t (faults.ReadFault path) = Unit {0}
+StopsAs w t (faults.At number cause) = Judged w t (at number cause)
+StopsAs w t (faults.ReadFault path) = MayFailAt w t path
 StopsAs w t faults.Memory = Unit {0}
 
 abbrev pub StopsIn : Setting → List (List ℕ) → CheckFault → Type 0
 StopsIn w lines fault = (t : Lines) → t.events ≡ lines → StopsAs w t fault
-
--- a text with these lines is refused so
-abbrev pub IsRefusedAt : Setting → Lines → CheckFault → Type 0
-IsRefusedAt w t (faults.At number cause) = Judged w t (at number cause)
-IsRefusedAt w t (faults.ReadFault path) = ⊥
-IsRefusedAt w t faults.Memory = ⊥
 
 -- why one is refused that has no last line, by what stands behind the last line feed
 abbrev pub end_cause : List ℕ → TraceCause

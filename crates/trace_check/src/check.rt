@@ -1,14 +1,13 @@
 //! A trace, line by line.
 
-ghost use Rattle.std.specs.Prelude.{◌≡◌, ◌≤◌, ◌+◌, [], ℕ, List, IfErr, IfOk, None, Ok, OnOk, map};
+ghost use Rattle.std.specs.Prelude.{◌≡◌, ◌≢◌, ◌≤◌, ◌+◌, [], ℕ, List, IfErr, IfOk, None, Ok, OnOk, map};
 ghost use Rattle.history_event.specs.declared.event.Event.{Event};
 ghost use Rattle.history_journal.specs.Following.{machine_of};
 ghost use Rattle.history_state.specs.Setting.{Setting};
-ghost use Rattle.ld_base.specs.declared.linking.File.{File};
 ghost use Rattle.library_source.specs.Count.{Rises};
-ghost use Rattle.trace_check.specs.Judged.{IsJudged, Judged, Says, at, legal};
+ghost use Rattle.trace_check.specs.Judged.{IsJudged, Judged, MayBeRead, Says, at, legal};
 ghost use Rattle.trace_check.specs.Lines.{AreLines};
-ghost use Rattle.trace_check.specs.Rows.{AreTaken, IsOfLine, IsPrepared, IsRefusedAt, StopsAs, StopsIn, end_cause};
+ghost use Rattle.trace_check.specs.Rows.{AreTaken, IsOfLine, IsPrepared, StopsAs, StopsIn, end_cause};
 ghost use Rattle.trace_check.specs.Split.{lines_of};
 ghost use Rattle.trace_check.specs.declared.verdict.CheckFault.TheVariants.{At as IsAt, ReadFault as IsReadFault};
 ghost use Rattle.trace_check.specs.declared.verdict.TraceCause.{TraceCause as ACause};
@@ -31,12 +30,14 @@ use trace_rows::is_whole;
 /// library has at the paths which the lines name, of a run without preload names that looks for libraries in these
 /// folders. Answers how many events there are, if the trace is legal and whole. The library is handed back.
 ///
-/// Over a library that doesn't tell its files, a trace that passes is legal over some files, each opening by its own,
-/// and of a refusal nothing is said.
+/// Over a library that doesn't tell its files, a trace that passes is legal over some files, each opening by its own.
+/// A line that is refused then is the first that is wrong over any files, or is an opening's that loads a name: of
+/// that no more is said.
 ///
 /// # Errors
 ///
-/// The first line that is refused; that the library failed to read a path, which its count shows; or want of memory.
+/// The first line that is refused; that the library failed to read a path, which its count shows, and to which an
+/// opening may come; or want of memory.
 pub fn check_trace<L: Library>(
     alloc: Global,
     trace: &[u8],
@@ -44,8 +45,9 @@ pub fn check_trace<L: Library>(
     library: L,
 ) -> (Result<u64, CheckFault>, L)
     ensures passed { IfOk result.0 (λ count. IsJudged folders.now (L.files library) trace.now (legal count)) }
-    ensures refused { (files : List File) (line : ℕ) (cause : ACause) → L.files library ≡ Some files
-        → IfErr result.0 (λ fault. fault ≡ IsAt line cause → IsJudged folders.now (Some files) trace.now (at line cause)) }
+    ensures refused { IfErr result.0 (λ fault. (line : ℕ) (cause : ACause) → fault ≡ IsAt line cause
+        → IsJudged folders.now (L.files library) trace.now (at line cause)) }
+    ensures path { IfErr result.0 (λ fault. (path : List ℕ) → fault ≡ IsReadFault path → MayBeRead folders.now (L.files library) trace.now path) }
     ensures failed { IfErr result.0 (λ fault. (path : List ℕ) → fault ≡ IsReadFault path → Rises (L.faults library) (L.faults result.1)) }
     ensures files { L.files result.1 ≡ L.files library }
     ensures faults { L.faults library ≤ L.faults result.1 }
@@ -166,7 +168,8 @@ fn judge_end(replay: &Replay, lines: &Lines) -> Result<u64, CheckFault>
     ensures passed { (w : Setting) (events : List Event) → w.machine ≡ machine_of replay.now.harts → Says w (lines_of lines.now).events events
         → Shows events replay.now → IfOk result (λ count. Judged w (lines_of lines.now) (legal count)) }
     ensures refused { (w : Setting) (events : List Event) → w.machine ≡ machine_of replay.now.harts → Says w (lines_of lines.now).events events
-        → Shows events replay.now → IfErr result (IsRefusedAt w (lines_of lines.now)) }
+        → Shows events replay.now → IfErr result (StopsAs w (lines_of lines.now)) }
+    ensures line { IfErr result (λ fault. (path : List ℕ) → fault ≢ IsReadFault path) }
 {
     let count = lines.events.len() as u64;
     if lines.last.is_none() {

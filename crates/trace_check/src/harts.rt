@@ -1,8 +1,8 @@
 //! How many harts a trace is of.
 
-ghost use Rattle.std.specs.Prelude.{◌≡◌, IfOk, map};
+ghost use Rattle.std.specs.Prelude.{IfOk, map};
 ghost use Rattle.trace_check.specs.Harts.{NameHarts};
-ghost use Rattle.trace_check.specs.Parts.{IsPartOf, part_of};
+ghost use Rattle.trace_check.specs.Parts.{IsPart, IsPartOf};
 
 use history_event::EventLine;
 use std::alloc::{AllocError, Global};
@@ -55,7 +55,7 @@ fn line_part(alloc: Global, line: &[u8]) -> Result<Part, AllocError>
 
 /// What an event is to the start.
 fn event_part(event: &EventLine) -> Part
-    ensures { result ≡ part_of event.now }
+    ensures { IsPart event.now result }
 {
     match event {
         EventLine::Init { .. } | EventLine::Ended { .. } => Part::Over,

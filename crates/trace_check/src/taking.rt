@@ -5,9 +5,10 @@ ghost use Rattle.history_event.specs.declared.event.Event.{Event};
 ghost use Rattle.history_journal.specs.Following.{machine_of};
 ghost use Rattle.history_state.specs.Setting.{Setting};
 ghost use Rattle.library_source.specs.Count.{Rises};
-ghost use Rattle.trace_check.specs.Rows.{ComesOf, FindsNone, IsChecked, MayBeTaken, TakesFound, refusal_of};
+ghost use Rattle.trace_check.specs.Rows.{ComesOf, FindsNone, IsChecked, IsDoubtOf, MayBeTaken, TakesFound, refusal_of};
 ghost use Rattle.trace_opens.specs.OpeningRows.Expected.{trace_run};
 ghost use Rattle.trace_opens.specs.declared.failed_paths.judging.Doubt.TheVariants.{Memory, ReadFault};
+ghost use Rattle.trace_read.specs.Lines.{HasLine};
 ghost use Rattle.trace_read.specs.Said.{said_of};
 ghost use Rattle.trace_replay.specs.Shown.{Shows};
 ghost use Rattle.trace_replay.specs.Taken.{Takes, event_of};
@@ -38,6 +39,8 @@ pub(crate) fn take_line<L: Library>(
     requires { 1 ≤ replay.old.harts }
     ensures checked { IfOk result.0 (λ cause. (past : List Event) → Shows past replay.old
         → IsChecked (trace_run replay.old.harts folders.now (L.files library)) past line.now replay.new cause) }
+    ensures path { IfErr result.0 (λ doubt. (past : List Event) → Shows past replay.old
+        → IsDoubtOf (trace_run replay.old.harts folders.now (L.files library)) past line.now doubt) }
     ensures failed { IfErr result.0 (λ doubt. (failed : List ℕ) → doubt ≡ ReadFault failed → Rises (L.faults library) (L.faults result.1)) }
     ensures harts { replay.new.harts ≡ replay.old.harts }
     ensures files { L.files result.1 ≡ L.files library }
@@ -80,6 +83,8 @@ fn take_said<L: Library>(
     requires { 1 ≤ replay.old.harts }
     ensures comes { IfOk result.0 (λ may. (past : List Event) → Shows past replay.old
         → ComesOf (trace_run replay.old.harts folders.now (L.files library)) past said.now replay.new may) }
+    ensures path { IfErr result.0 (λ doubt. (past : List Event) (line : List ℕ) → Shows past replay.old → HasLine line said.now
+        → IsDoubtOf (trace_run replay.old.harts folders.now (L.files library)) past line doubt) }
     ensures failed { IfErr result.0 (λ doubt. (failed : List ℕ) → doubt ≡ ReadFault failed → Rises (L.faults library) (L.faults result.1)) }
     ensures harts { replay.new.harts ≡ replay.old.harts }
     ensures files { L.files result.1 ≡ L.files library }

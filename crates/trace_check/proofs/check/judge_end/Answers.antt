@@ -1,8 +1,7 @@
-use Rattle.std.proofs.Common.{rules, ◌≡◌, ◌==◌, ◌+◌, ℕ, Bool, true, false, length, map, sym, subst, ◌∙◌}
+use Rattle.std.proofs.Common.{rules, ◌≡◌, ◌==◌, ◌+◌, true, false, length, sym, subst, ◌∙◌}
 use Rattle.std.specs.Prelude.{is_none}
 use Rattle.std.proofs.lemmas.Bool.{true≢false}
 use Rattle.std.proofs.lemmas.List.{length-map}
-use Rattle.history_state.specs.Legal.{Whole}
 use Rattle.trace_check.specs.Judged.{Judged, at}
 use Rattle.trace_check.specs.Split.{lines_of}
 use Rattle.trace_check.proofs.Ended.{cut_short, has_more, no_bytes_left, none_of, passes, some_bytes, some_of, unfinished}
@@ -48,3 +47,12 @@ returns-clause-passed c =
     λ w events machine says shows.
     passes w (lines_of c.args.lines.now) events c.len-count.result count says (some_of (λ line. line.now) c.args.lines.now.last some) ((c.is_whole.ensures w events machine shows).0 is)
     (no_bytes_left c.args.lines.now.rest.now none)
+
+pub returns-then-is_none-clause-line : goal.returns-then-is_none-clause-line
+returns-then-is_none-clause-line c = λ path is. absurd cc
+
+pub returns-then-not-is_whole-clause-line : goal.returns-then-not-is_whole-clause-line
+returns-then-not-is_whole-clause-line c = λ path is. absurd cc
+
+pub returns-then-not-is_empty-clause-line : goal.returns-then-not-is_empty-clause-line
+returns-then-not-is_empty-clause-line c = λ path is. absurd cc

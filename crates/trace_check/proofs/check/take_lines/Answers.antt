@@ -1,4 +1,4 @@
-use Rattle.std.proofs.Common.{rules, ◌≡◌, ◌<◌, ◌≤◌, length, map, None, Ok, refl, subst, sym, ◌∙◌, arith}
+use Rattle.std.proofs.Common.{rules, ◌≡◌, ◌<◌, length, map, None, Ok, refl, subst, ◌∙◌, arith}
 use Rattle.std.proofs.lemmas.List.{length-map}
 use Rattle.trace_check.specs.Rows.{AreTaken}
 use Rattle.trace_opens.specs.OpeningRows.Expected.{trace_run}
@@ -20,7 +20,7 @@ returns-in-Err-clause-stopped g c =
     let inside : c.loop-index.index < length c.args.lines.now = omega arith in
     line_stops c.args.folders.now c.args.replay.now.harts c.loop-index.replay.harts (g.L.Library.files c.args.library) (g.L.Library.files c.loop-index.library) c.loop-index.invariant.harts c.loop-index.invariant.files
     (map (λ line. line.now) c.args.lines.now) c.loop-index.index _ c.loop-index.replay c.take_line-checked.new.replay (omega (arith, inside, length-map c.args.lines.now (λ line. line.now)))
-    (got_mapped (λ line. line.now) c.args.lines.now c.loop-index.index _ _ inside) c.loop-index.invariant.taken c.take_line-checked.result.0 c.take_line-checked.ensures.checked c.in-Err.fault c.in-Err.ensures.err
+    (got_mapped (λ line. line.now) c.args.lines.now c.loop-index.index _ _ inside) c.loop-index.invariant.taken c.take_line-checked.result.0 c.take_line-checked.ensures.checked c.take_line-checked.ensures.path c.in-Err.fault c.in-Err.ensures.err
 
 pub loop-index-preserved : goal.loop-index-preserved
 loop-index-preserved g c =

@@ -1,4 +1,4 @@
-use Rattle.std.proofs.Common.{rules, ◌≡◌, ℕ, ◌+◌, ◌<◌, ◌≤◌, length, map, arith}
+use Rattle.std.proofs.Common.{rules, ◌<◌, length, arith}
 use Rattle.trace_check.proofs.Counted.{at_end, at_hart, at_other, at_over}
 use Rattle.trace_check.proofs.harts.named_harts.Goals as goal
 use Rattle.trace_check.proofs.harts.named_harts.Goals.{in-Hart+in_ok-named-in-Hart, in-Other}

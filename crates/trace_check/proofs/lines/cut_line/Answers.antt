@@ -1,4 +1,4 @@
-use Rattle.std.proofs.Common.{rules, ◌≡◌, ◌+◌, List, None, Some, Option, take, subst, sym}
+use Rattle.std.proofs.Common.{rules, None, Some, Option, subst, sym}
 use Rattle.std.specs.Prelude.{IfNone}
 use Rattle.trace_check.specs.Lines.{HasNoFeed, IsLine}
 use Rattle.trace_check.proofs.Splitting.{first_line, no_line}

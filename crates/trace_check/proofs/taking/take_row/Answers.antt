@@ -1,4 +1,4 @@
-use Rattle.std.proofs.Common.{◌≡◌, [], None, refl}
+use Rattle.std.proofs.Common.{[], None, refl}
 use Rattle.trace_opens.specs.OpeningRows.Expected.{trace_run}
 use Rattle.trace_rows.specs.Rows.{IsExpected}
 use Rattle.trace_check.proofs.Taken.{some_in}
