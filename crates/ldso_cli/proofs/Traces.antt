@@ -8,7 +8,7 @@ use Rattle.ld_base.specs.declared.linking.File.{File}
 use Rattle.library_source.specs.Count.{Rises}
 use Rattle.library_source.specs.Files.{AreFiles, Over, file_at}
 use Rattle.cli_words.specs.declared.command.Check.{Check}
-use Rattle.trace_check.specs.Judged.{IsJudged, Verdict, at, legal}
+use Rattle.trace_check.specs.Judged.{IsJudged, MayBeRead, Verdict, at, legal}
 use Rattle.trace_check.specs.Laws.{OneVerdict}
 use Rattle.trace_check.specs.declared.verdict.CheckFault.{CheckFault}
 use Rattle.trace_check.specs.declared.verdict.CheckFault.TheVariants as faults
@@ -32,8 +32,8 @@ use Rattle.ldso_cli.specs.declared.outcome.End.{End}
 pub record IsSaidOf (folders : List (List ℕ)) (before after : LibraryAt) (trace : List ℕ) (r : Result ℕ CheckFault) : Type 0 where
   pub fits : HasTraceLength trace
   pub passed : IfOk r (λ count. IsJudged folders before.files trace (legal count))
-  pub refused : (files : List File) (line : ℕ) (cause : TraceCause) → before.files ≡ Some files
-      → IfErr r (λ fault. fault ≡ faults.At line cause → IsJudged folders (Some files) trace (at line cause))
+  pub refused : IfErr r (λ fault. (line : ℕ) (cause : TraceCause) → fault ≡ faults.At line cause → IsJudged folders before.files trace (at line cause))
+  pub path : IfErr r (λ fault. (path : List ℕ) → fault ≡ faults.ReadFault path → MayBeRead folders before.files trace path)
   pub failed : IfErr r (λ fault. (path : List ℕ) → fault ≡ faults.ReadFault path → Rises before.faults after.faults)
 
 judged : (folders : List (List ℕ)) (before after : LibraryAt) (trace : List ℕ) (r : Result ℕ CheckFault) (end : End) (text : List ℕ) → IsSaidOf folders before after trace r → IsJudgement r end text
@@ -43,12 +43,12 @@ judged folders before after trace (Ok count) end text said is =
 judged folders before after trace (Err (faults.At line cause)) end text said is = record {
   cause = causes.TraceRefused line (Some cause);
   end_is = is.end_is;
-  by = record { fits = said.fits; judged = λ files told. said.refused files line cause told refl; text_is = is.text_is };
+  by = record { fits = said.fits; judged = said.refused line cause refl; text_is = is.text_is };
 }
 judged folders before after trace (Err (faults.ReadFault path)) end text said is = record {
   cause = causes.Refused (dl.ReadFault path);
   end_is = is.end_is;
-  by = record { fits = said.fits; path = path; fault_is = refl; counted = said.failed path refl; text_is = is.text_is };
+  by = record { fits = said.fits; path = path; fault_is = refl; read = said.path path refl; counted = said.failed path refl; text_is = is.text_is };
 }
 judged folders before after trace (Err faults.Memory) end text said is = absurd is
 
@@ -83,9 +83,9 @@ read_comes check before middle after trace (Ok a) same less found comes = record
     moved : (cause : Cause) → TraceComes check.folders middle after trace cause a.text → TraceComes check.folders before after trace cause a.text
     moved causes.Done x = record { fits = x.fits; count = x.count; judged = subst (λ files. IsJudged check.folders files trace (legal x.count)) same x.judged; text_is = x.text_is }
     moved (causes.TraceRefused line (Some cause)) x =
-        record { fits = x.fits; judged = λ files told. x.judged files (same ∙ told); text_is = x.text_is }
+        record { fits = x.fits; judged = subst (λ files. IsJudged check.folders files trace (at line cause)) same x.judged; text_is = x.text_is }
     moved (causes.TraceRefused line None) x = x
-    moved (causes.Refused fault) x = record { fits = x.fits; path = x.path; fault_is = x.fault_is; counted = risen x.counted; text_is = x.text_is }
+    moved (causes.Refused fault) x = record { fits = x.fits; path = x.path; fault_is = x.fault_is; read = subst (λ files. MayBeRead check.folders files trace x.path) same x.read; counted = risen x.counted; text_is = x.text_is }
       where
         risen : Rises middle.faults after.faults → Rises before.faults after.faults
         risen (inl more) = inl (omega (arith, more, less))
@@ -148,7 +148,7 @@ settled : (folders : List (List ℕ)) (files : List File) (before after : Librar
 settled folders files before after trace causes.Done text told quiet x =
     inl (record { fits = x.fits; verdict = legal x.count; judged = subst (λ fs. IsJudged folders fs trace (legal x.count)) told x.judged; cause_is = refl; text_is = x.text_is })
 settled folders files before after trace (causes.TraceRefused line (Some cause)) text told quiet x =
-    inl (record { fits = x.fits; verdict = at line cause; judged = x.judged files told; cause_is = refl; text_is = x.text_is })
+    inl (record { fits = x.fits; verdict = at line cause; judged = subst (λ fs. IsJudged folders fs trace (at line cause)) told x.judged; cause_is = refl; text_is = x.text_is })
 settled folders files before after trace (causes.TraceRefused line None) text told quiet x =
     inr (record { long = x.long; cause_is = ap (λ n. causes.TraceRefused n None) x.line_is; text_is = x.text_is ∙ ap (λ n. trace_refused_text n None) x.line_is })
 settled folders files before after trace (causes.Refused fault) text told quiet x = absurd (quiet x.path (ap causes.Refused x.fault_is))
@@ -184,7 +184,7 @@ not_missing o x a b = let e : Some x ≡ None = sym a ∙ b in absurd cc
 quiet_of : (check : Check) (before after : LibraryAt) (cause : Cause) (text : List ℕ) (read : SourceRead) → (Rises before.faults after.faults → ⊥) → ReadsTrace before after check.trace read
     → CheckGives check before after read cause text → IsQuiet cause
 quiet_of check before after cause text (source trace) still reads gives path e =
-    let x : HasFailed before after trace (dl.ReadFault path) text = subst (λ c. TraceComes check.folders before after trace c text) e gives in still x.counted
+    let x : HasFailed check.folders before after trace (dl.ReadFault path) text = subst (λ c. TraceComes check.folders before after trace c text) e gives in still x.counted
 quiet_of check before after cause text missing still reads gives path e = let d : causes.Refused (dl.MissingLibrary check.trace) ≡ causes.Refused (dl.ReadFault path) = sym gives.cause_is ∙ e in absurd cc
 quiet_of check before after cause text failed still reads gives path e = still reads.holds
 

@@ -6,7 +6,7 @@ use Rattle.ld_base.specs.declared.linking.File.{File}
 use Rattle.library_source.specs.Count.{Rises}
 use Rattle.library_source.specs.Files.{Over, file_at}
 use Rattle.cli_words.specs.declared.command.Check.{Check}
-use Rattle.trace_check.specs.Judged.{IsJudged, at, legal}
+use Rattle.trace_check.specs.Judged.{IsJudged, MayBeRead, at, legal}
 use Rattle.trace_check.specs.declared.verdict.TraceCause.{TraceCause}
 use Rattle.ldso_cli.specs.Asm.{ReadsSource, SourceRead, source, missing, failed}
 use Rattle.ldso_cli.specs.End.{bare}
@@ -27,10 +27,10 @@ pub record IsLegal (folders : List (List ℕ)) (before : LibraryAt) (trace text 
   pub judged : IsJudged folders before.files trace (legal count)
   pub text_is : text ≡ legal_text count
 
--- it is refused at this line; where the files aren't told, nothing is said of that
+-- it is refused at this line, by the files as the library tells them: where it doesn't, the line is wrong by any files, or an opening's that loads a name
 pub record IsRefused (folders : List (List ℕ)) (before : LibraryAt) (trace : List ℕ) (line : ℕ) (cause : TraceCause) (text : List ℕ) : Type 0 where
   pub fits : HasTraceLength trace
-  pub judged : (files : List File) → before.files ≡ Some files → IsJudged folders (Some files) trace (at line cause)
+  pub judged : IsJudged folders before.files trace (at line cause)
   pub text_is : text ≡ trace_refused_text line (Some cause)
 
 pub record IsTooLong (trace : List ℕ) (line : ℕ) (text : List ℕ) : Type 0 where
@@ -38,11 +38,12 @@ pub record IsTooLong (trace : List ℕ) (line : ℕ) (text : List ℕ) : Type 0 
   pub line_is : line ≡ 0
   pub text_is : text ≡ trace_refused_text line None
 
--- the library failed in this call, which it counts; that the path told is the one at which it failed isn't said
-pub record HasFailed (before after : LibraryAt) (trace : List ℕ) (fault : DlFault) (text : List ℕ) : Type 0 where
+-- the library failed in this call, which it counts; the path that is told is one that an opening of the trace may come to read
+pub record HasFailed (folders : List (List ℕ)) (before after : LibraryAt) (trace : List ℕ) (fault : DlFault) (text : List ℕ) : Type 0 where
   pub fits : HasTraceLength trace
   pub path : List ℕ
   pub fault_is : fault ≡ dl.ReadFault path
+  pub read : MayBeRead folders before.files trace path
   pub counted : Rises before.faults after.faults
   pub text_is : text ≡ refused_text fault
 
@@ -51,7 +52,7 @@ abbrev pub TraceComes : List (List ℕ) → LibraryAt → LibraryAt → List ℕ
 TraceComes folders before after trace causes.Done text = IsLegal folders before trace text
 TraceComes folders before after trace (causes.TraceRefused line (Some cause)) text = IsRefused folders before trace line cause text
 TraceComes folders before after trace (causes.TraceRefused line None) text = IsTooLong trace line text
-TraceComes folders before after trace (causes.Refused fault) text = HasFailed before after trace fault text
+TraceComes folders before after trace (causes.Refused fault) text = HasFailed folders before after trace fault text
 TraceComes folders before after trace (causes.Ran run_end) text = ⊥
 TraceComes folders before after trace (causes.AsmRefused line cause) text = ⊥
 TraceComes folders before after trace causes.Usage text = ⊥

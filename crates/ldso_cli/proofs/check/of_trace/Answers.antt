@@ -18,5 +18,6 @@ returns-clause-comes g c =
       fits = fits;
       passed = c.check_trace-judged.ensures.passed;
       refused = c.check_trace-judged.ensures.refused;
+      path = c.check_trace-judged.ensures.path;
       failed = c.check_trace-judged.ensures.failed;
     }) c.judgement.ensures
