@@ -1,10 +1,9 @@
 -- Harts that have ended are told of events.
-use Rattle.std.proofs.Common.{◌≡◌, ℕ, ◌+◌, ◌≤◌, false, List, [], ◌∷◌, ◌++◌, length, Option, Some, None, IsSome, refl, sym, ap, subst, ◌∙◌, append_assoc, append-nil, length-append, arith}
+use Rattle.std.proofs.Common.{◌≡◌, ℕ, ◌+◌, ◌≤◌, false, List, [], ◌++◌, length, Option, Some, None, IsSome, refl, sym, ap, subst, ◌∙◌, append_assoc, append-nil, length-append, arith}
 use Rattle.std.proofs.lemmas.Bool.{false≢true}
 use Rattle.history_event.specs.declared.event.Event.{Event}
 use Rattle.history_event.specs.declared.hart_end.HartEnd.{HartEnd}
 use Rattle.word_rule.specs.declared.view.HartView.{HartView}
-use Rattle.word_rule.specs.declared.view.TrailItem.{TrailItem}
 use Rattle.word_rule.specs.Views.{BeginsWith, IsLane}
 use Rattle.history_state.specs.Setting.{Setting}
 use Rattle.tls_blocks.specs.Blocks.{BlockTable}
@@ -17,7 +16,7 @@ use Rattle.hart_linker.specs.Between.{HasHeard, Hears, IsBetweenTurns}
 use Rattle.hart_linker.specs.Lemmas.Hearing.{hears_between}
 use Rattle.hart_threads.specs.Ends.{IsThrough}
 use Rattle.hart_threads.specs.Run.{IsTold, RunsOn, RunsToEnd}
-use Rattle.hart_threads.specs.Turns.{Proceeds, RunsBy}
+use Rattle.hart_threads.specs.Turns.{Proceeds}
 use Rattle.hart_threads.proofs.Running.{runs_further}
 use Rattle.hart_threads.proofs.Stepping.{none_joined, none_there}
 

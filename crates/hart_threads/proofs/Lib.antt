@@ -1,3 +1,5 @@
+mod Apart
+mod Begun
 mod Blocks
 mod Bound
 mod Hearing

@@ -1,13 +1,11 @@
 -- Events of nobody settle grants: whole ways stay so over them.
-use Rattle.std.proofs.Common.{◌≡◌, ℕ, zero, suc, ◌+◌, ◌<◌, ◌≤◌, Bool, List, [], ◌∷◌, ◌++◌, length, length-append, Option, None, Some, refl, sym, ap, subst, ◌∙◌, append-nil, arith}
-use Rattle.std.specs.List.{Contains, slice_get}
+use Rattle.std.proofs.Common.{◌≡◌, ℕ, suc, ◌+◌, ◌<◌, List, [], ◌∷◌, ◌++◌, length, length-append, Option, None, Some, refl, sym, ap, subst, ◌∙◌, append-nil, arith}
+use Rattle.std.specs.List.{slice_get}
 use Rattle.std.proofs.lemmas.Option.{slice_get_within}
 use Rattle.history_event.specs.declared.event.Event.{Event}
 use Rattle.history_event.specs.declared.event.Event.TheVariants as events
-use Rattle.history_event.specs.declared.hart_end.HartEnd.{HartEnd}
 use Rattle.history_event.specs.declared.state.Standing.{Standing}
 use Rattle.history_event.specs.declared.state.Standing.TheVariants.{Bound, Lost}
-use Rattle.word_rule.specs.declared.view.TrailItem.{TrailItem}
 use Rattle.history_state.specs.After.{after}
 use Rattle.history_state.specs.Lemmas.History.{after_push, one_behind}
 use Rattle.history_state.specs.Lemmas.Lists.{here, later}
@@ -16,9 +14,7 @@ use Rattle.history_state.specs.Setting.{Setting, have_exited}
 use Rattle.history_state.specs.State.{State}
 use Rattle.history_state.specs.Step.{settle, step}
 use Rattle.history_calls.specs.Laws.{hart_of}
-use Rattle.hart_moves.specs.Follows.{AreOthers, HasNone}
 use Rattle.hart_moves.specs.Moves.{all_finis}
-use Rattle.hart_moves.specs.Starting.{HartStart}
 use Rattle.hart_threads.specs.Laws.{AreNobodys, RestIsNobodys, WaysStay, WaysStayBehind}
 
 -- ---- the end of a run is as it was

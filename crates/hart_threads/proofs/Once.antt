@@ -1,12 +1,11 @@
 -- A hart that follows ends once.
-use Rattle.std.proofs.Common.{◌≡◌, ⊎_elim, ℕ, ◌+◌, ◌-◌, ◌≤◌, ◌||◌, cond, ne_eqb, Bool, true, false, List, [], ◌∷◌, ◌++◌, length, map, take, drop, Option, Some, None, refl, sym, ap, subst, ◌∙◌, append_assoc, append-nil, arith}
-use Rattle.std.specs.List.{Contains, list_any}
+use Rattle.std.proofs.Common.{◌≡◌, ⊎_elim, ℕ, ◌+◌, ◌-◌, ◌≤◌, ◌||◌, cond, ne_eqb, Bool, true, false, List, [], ◌∷◌, ◌++◌, length, map, take, drop, Some, None, refl, sym, ap, subst, ◌∙◌, append_assoc, append-nil, arith}
+use Rattle.std.specs.List.{Contains}
 use Rattle.std.proofs.lemmas.Bool.{false≢true, or_right}
 use Rattle.std.proofs.lemmas.List.{take_all}
 use Rattle.std.proofs.lemmas.List.Sums.{sum_by-append}
 use Rattle.history_event.specs.declared.event.Event.{Event}
 use Rattle.history_event.specs.declared.event.Event.TheVariants as events
-use Rattle.history_event.specs.declared.hart_end.HartEnd.{HartEnd}
 use Rattle.history_event.specs.declared.state.Ending.{Ending}
 use Rattle.word_rule.specs.declared.view.HartView.{HartView}
 use Rattle.word_rule.specs.declared.view.TrailItem.{TrailItem}
@@ -16,7 +15,7 @@ use Rattle.history_state.specs.Setting.{Setting}
 use Rattle.history_state.specs.State.{State}
 use Rattle.history_state.specs.Step.{step}
 use Rattle.history_state.specs.Lemmas.History.{after_push, one_behind}
-use Rattle.history_state.specs.Lemmas.Lists.{here, in_map, later}
+use Rattle.history_state.specs.Lemmas.Lists.{here, later}
 use Rattle.history_calls.specs.Laws.{hart_of}
 use Rattle.hart_moves.specs.Follows.{AreOthers, HasNone, Turned}
 use Rattle.hart_moves.specs.Harts.{Frame, HartState}
@@ -24,7 +23,7 @@ use Rattle.hart_moves.specs.Moves.{Did, Moves, events_of}
 use Rattle.hart_moves.specs.TurnEvents.Appends.{Appends, has_finals, is_final_frame}
 use Rattle.hart_moves.specs.TurnEvents.Laws.{FinalsStayAway, TurnsAppend}
 use Rattle.world_turns.specs.WorldEnds.Lemmas.Endings.{sparing_events, unmapping}
-use Rattle.world_turns.specs.WorldFrames.Finals.{FinalsFit, final_frame}
+use Rattle.world_turns.specs.WorldFrames.Finals.{final_frame}
 use Rattle.hart_fits.specs.Fits.{HartFits, IsBefore, IsInFinals}
 use Rattle.hart_fits.specs.Lemmas.Ending.{Ends, ends}
 use Rattle.hart_fits.specs.Over.{RunsYet}
@@ -151,37 +150,41 @@ module _ (append : TurnsAppend) (away : FinalsStayAway) where
       (gap_others seat.heard seat.number r.to more (subst (HasNone seat.heard seat.number r.to) (sym count) r.none))
       (once_at w seat.heard seat.number from r.to first b r.turns r.own r.follows calm x))
 
+  -- before the final destructors no end of a hart that runs stands there
+  not_in_finals : (frames above : List Frame) (frame : Frame) → frames ≡ above ++ frame ∷ [] → is_final_frame frame ≡ true → has_finals frames ≡ true
+  not_in_finals frames above frame are final = ap has_finals are ∙ last above
+    where
+      last : (fs : List Frame) → has_finals (fs ++ frame ∷ []) ≡ true
+      last [] = ap (λ (t : Bool). t || false) final
+      last (f ∷ fs) = or_right (is_final_frame f) (has_finals (fs ++ frame ∷ [])) (last fs)
+
+  pub runs_yet : (w : Setting) (h : HartView) (b : HartState) → HartFits w h.heard h.number b → b.«end» ≡ None → has_finals b.frames ≡ false → RunsYet h.number h.heard
+  runs_yet w h b fits runs calm = ⊎_elim
+      (λ (x : IsBefore h.heard h.number b). x.runs runs)
+      (λ (x : IsInFinals w h.heard h.number b).
+      absurd (false≢true (sym calm ∙ not_in_finals b.frames x.frames.above (final_frame x.frames.code x.frames.function) x.frames.are refl)))
+      fits.place
+
+  -- a way of it may begin at any moment
+  pub runs_here : (w : Setting) (h : HartView) (b : HartState) → RunsBy w (length h.heard) b h.trail h b
+  runs_here w h b = record {
+    turns = [];
+    own = [];
+    to = length h.heard;
+    follows = FollowsBy.no_more (length h.heard) b;
+    late = omega arith;
+    none = none_there h.heard h.number (length h.heard);
+    trail = sym (append-nil h.trail);
+  }
+
   -- a hart that ran before the final destructors has ended once at most, however it went on
   pub ended_once : (w : Setting) (before now : HartView) (b c : HartState) → HartFits w before.heard before.number b → b.«end» ≡ None → has_finals b.frames ≡ false → Proceeds w before now b c
       → times_ended now.number (after now.heard).endings ≤ 1
-  ended_once w before now b c fits runs calm on = (once_to w (length before.heard) b before.trail now c r calm start).most
+  ended_once w before now b c fits runs calm on =
+      (once_to w (length before.heard) b before.trail now c (on.on (length before.heard) b before.trail (runs_here w before b)) calm start).most
     where
-      r : RunsBy w (length before.heard) b before.trail now c
-      r = on.on (length before.heard) b before.trail (record {
-        turns = [];
-        own = [];
-        to = length before.heard;
-        follows = FollowsBy.no_more (length before.heard) b;
-        late = omega arith;
-        none = none_there before.heard before.number (length before.heard);
-        trail = sym (append-nil before.trail);
-      })
-
-      not_in_finals : (frames above : List Frame) (frame : Frame) → frames ≡ above ++ frame ∷ [] → is_final_frame frame ≡ true → has_finals frames ≡ true
-      not_in_finals frames above frame are final = ap has_finals are ∙ last above
-        where
-          last : (fs : List Frame) → has_finals (fs ++ frame ∷ []) ≡ true
-          last [] = ap (λ (t : Bool). t || false) final
-          last (f ∷ fs) = or_right (is_final_frame f) (has_finals (fs ++ frame ∷ [])) (last fs)
-
-      yet : IsBefore before.heard before.number b
-      yet = ⊎_elim (λ (x : IsBefore before.heard before.number b). x)
-          (λ (x : IsInFinals w before.heard before.number b).
-          absurd (false≢true (sym calm ∙ not_in_finals b.frames x.frames.above (final_frame x.frames.code x.frames.function) x.frames.are refl)))
-          fits.place
-
       none : times_ended before.number (after before.heard).endings ≡ 0
-      none = none_counted before.number (after before.heard).endings (yet.runs runs)
+      none = none_counted before.number (after before.heard).endings (runs_yet w before b fits runs calm)
 
       first : EndsOnce before.number before.heard b
       first = record { most = omega (arith, none); none = λ on_so. none }

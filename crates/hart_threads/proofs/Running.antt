@@ -33,12 +33,15 @@ use Rattle.hart_turns.specs.declared.turned.Turned.{Turned}
 use Rattle.hart_turns.specs.declared.turned.Turned.TheVariants.{Again, Ends, Over}
 use Rattle.world_turns.specs.Lemmas.Resolution.{Resolution, resolution, rests_after}
 use Rattle.hart_linker.specs.Between.{BlocksFit, HasGrant, HasHeard, IsAtRow, IsBetweenTurns}
-use Rattle.hart_linker.specs.Serving.{EndsTurn, HasRun, ServesTurn, is_finalising}
+use Rattle.hart_linker.specs.Serving.{EndsTurn, HasRun, ServesTurn, is_asking, is_finalising}
 use Rattle.hart_threads.specs.Binding.{BindsSlot, exchanged_to}
 use Rattle.hart_threads.specs.Keeping.{Answers, ReadsBlock, kept_in}
-use Rattle.hart_threads.specs.Next.{HoldsSlot}
+use Rattle.hart_threads.specs.Next.{HoldsSlot, IsNext}
+use Rattle.hart_threads.specs.declared.next.Next.{Next}
+use Rattle.hart_threads.specs.declared.next.Next.TheVariants as next
 use Rattle.hart_threads.specs.Quiet.{TakesQuiet, end_of}
-use Rattle.hart_threads.specs.Run.{IsCalm, RunsOn}
+use Rattle.std.specs.Option.{IsSome}
+use Rattle.hart_threads.specs.Run.{HasStarted, IsBegun, IsCalm, RunsOn}
 use Rattle.hart_threads.specs.Turns.{Proceeds}
 use Rattle.hart_threads.proofs.Blocks.{kept_moves, kept_turn, reads_none, was_read}
 use Rattle.hart_threads.proofs.Bound.{bound_stands, exchange_turn, finish_turn}
@@ -49,8 +52,18 @@ use Rattle.hart_threads.proofs.Turning.{ending_trail, ending_turn, own_is_not_lo
 
 -- ---- what isn't an exchange
 
-own_is_no_exchange : (d : Due) → is_own d ≡ true → (o : Offered) → d ≡ Due.exchange o → ⊥
+pub own_is_no_exchange : (d : Due) → is_own d ≡ true → (o : Offered) → d ≡ Due.exchange o → ⊥
 own_is_no_exchange d own o is = let no : true ≡ false = sym own ∙ ap is_own is in cc
+
+-- nor is any other turn than that of a slot
+pub next_holds_none : (b : HartState) (d : Due) (n : Next) → IsNext b d n → (n ≡ next.Bind → ⊥) → (o : Offered) → d ≡ Due.exchange o → ⊥
+next_holds_none b d next.Bind is other o at = other refl
+next_holds_none b d next.Quiet is other o at = own_is_no_exchange d is o at
+next_holds_none b d (next.Locate number offset) is other o at = let no : Due.serve (locates number offset) (back b) ≡ Due.exchange o = sym is.0 ∙ at in cc
+next_holds_none b d next.Serve is other o at = false≢true (sym (ap is_asking at) ∙ is.0)
+next_holds_none b d next.Finalise is other o at = false≢true (sym (ap is_finalising at) ∙ is)
+next_holds_none b d next.FuelOut is other o at = let no : Due.fuel_out ≡ Due.exchange o = sym is ∙ at in cc
+next_holds_none b d next.Nothing is other o at = let no : Due.nothing ≡ Due.exchange o = sym is ∙ at in cc
 
 pub located_is_no_exchange : (d : Due) (number offset : ℕ) (to : _) → d ≡ Due.serve (locates number offset) to → (o : Offered) → d ≡ Due.exchange o → ⊥
 located_is_no_exchange d number offset to at o is = let no : Due.serve (locates number offset) to ≡ Due.exchange o = sym at ∙ is in cc
@@ -353,6 +366,23 @@ module _ (fit : OwnMovesFit) (stay : TrailsStay) (behind : TurnsBehind) (w : Set
                 row);
             calm = λ reason over. ap (λ (h : HartView). h.lane.calling) x.view ∙ calm_after w before.heard before.number before b c (Did.serves [] []) moves row reason over;
           }
+
+none_there : (o : Option HartEnd) → IsSome o → o ≡ None → ⊥
+none_there (Some reason) some is = (let no : Some reason ≡ None = is in absurd cc)
+none_there None some is = false≢true some
+
+-- a hart that has begun isn't calling
+pub begun_calm : (w : Setting) (begun : List Event) (before now : HartView) (b c : HartState) (d : BlockTable) → RunsOn w begun before now b c d → IsBegun c → now.lane.calling ≡ false
+begun_calm w begun before now b c d x at = by c.«end» refl at
+  where
+    by : (o : Option HartEnd) → c.«end» ≡ o → IsBegun c → now.lane.calling ≡ false
+    by (Some reason) over begins = x.calm reason over
+    by None runs (inl started) = at_rest (after []) now c runs x.between.row (started.1 (after []))
+    by None runs (inr over) = absurd (none_there c.«end» over runs)
+
+pub begun_over : (b : HartState) → IsBegun b → HasStarted b
+begun_over b (inl started) = inl started.0
+begun_over b (inr ended) = inr ended
 
 -- nothing is due
 pub rests_on : (w : Setting) (begun : List Event) (seat : HartView) (b : HartState) (d : BlockTable) → IsBetweenTurns w begun seat b d → IsCalm seat b → RunsOn w begun seat seat b b d

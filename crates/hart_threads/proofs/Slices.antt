@@ -1,5 +1,6 @@
 -- A slice whose first element was changed.
-use Rattle.std.proofs.Common.{◌≡◌, ℕ, zero, suc, ◌<◌, List, [], ◌∷◌, length, ◌++◌, get_or, refl, sym, ap, subst, ◌∙◌, arith}
+use Rattle.std.proofs.lemmas.Bool.{eqb-true, false≢true}
+use Rattle.std.proofs.Common.{◌≡◌, ◌==◌, true, false, ℕ, zero, suc, ◌<◌, List, [], ◌∷◌, length, ◌++◌, append-nil, get_or, refl, sym, ap, subst, ◌∙◌, arith}
 use lib.ListN.{set}
 
 -- what holds of each element
@@ -8,6 +9,11 @@ pub each_set : {X : Type 0} (P : X → Type 0) (xs : List X) (y : X) → P y →
 each_set P [] y here all k d low = absurd (let no : k < 0 = low in omega (arith, no))
 each_set P (x ∷ xs) y here all zero d low = here
 each_set P (x ∷ xs) y here all (suc k) d low = all (suc k) d low
+
+-- the first of some
+pub first_of : {X : Type 0} (xs : List X) → 0 < length xs → X
+first_of [] some = absurd (let no : 0 < 0 = some in omega (arith, no))
+first_of (x ∷ xs) some = x
 
 -- it is the first
 pub first_set : {X : Type 0} (xs : List X) (y d : X) → 0 < length xs → get_or (set xs 0 y) 0 d ≡ y
@@ -63,3 +69,37 @@ pub other_set : {X : Type 0} (xs : List X) (y : X) (i : ℕ) (d : X) → 0 < i �
 other_set [] y i d some = refl
 other_set (x ∷ xs) y zero d some = absurd (let no : 0 < 0 = some in omega (arith, no))
 other_set (x ∷ xs) y (suc i) d some = refl
+
+-- the first one, and those behind it
+pub each_place : {X : Type 0} (P : X → Type 0) (xs : List X) → ((d : X) → P (get_or xs 0 d)) → ((k : ℕ) (d : X) → suc k < length xs → P (get_or xs (suc k) d)) → (i : ℕ) (d : X) → i < length xs → P (get_or xs i d)
+each_place P xs first rest zero d low = first d
+each_place P xs first rest (suc k) d low = rest k d low
+
+-- those behind the first
+pub back_is : {X : Type 0} (xs ys runs : List X) → length xs ≡ 1 → runs ≡ xs ++ ys → (k : ℕ) (d : X) → get_or runs (suc k) d ≡ get_or ys k d
+back_is [] ys runs one are k d = absurd (let no : 0 ≡ 1 = one in omega (arith, no))
+back_is (x ∷ x' ∷ xs) ys runs one are k d = absurd (let no : suc (suc (length xs)) ≡ 1 = one in omega (arith, no))
+back_is {X} (x ∷ []) ys runs one are k d = ap (λ (rs : List X). get_or rs (suc k) d) are
+
+pub back_count : {X : Type 0} (xs ys runs : List X) → length xs ≡ 1 → runs ≡ xs ++ ys → length runs ≡ suc (length ys)
+back_count [] ys runs one are = absurd (let no : 0 ≡ 1 = one in omega (arith, no))
+back_count (x ∷ x' ∷ xs) ys runs one are = absurd (let no : suc (suc (length xs)) ≡ 1 = one in omega (arith, no))
+back_count (x ∷ []) ys runs one are = ap length are
+
+-- what doesn't change where the first does
+pub still_set : {X Y : Type 0} (f : X → Y) (xs : List X) (y e : X) → 0 < length xs → f y ≡ f (get_or xs 0 e) → (k : ℕ) (d : X) → f (get_or (set xs 0 y) k d) ≡ f (get_or xs k d)
+still_set f [] y e some same k d = absurd (let no : 0 < 0 = some in omega (arith, no))
+still_set f (x ∷ xs) y e some same zero d = same
+still_set f (x ∷ xs) y e some same (suc k) d = refl
+
+-- none, and some
+pub none_at : (n : ℕ) → (n == 0) ≡ true → n ≡ 0
+none_at n is = eqb-true n 0 is
+
+pub some_at : (n : ℕ) → (n == 0) ≡ false → 0 < n
+some_at zero is = absurd (false≢true (sym is))
+some_at (suc n) is = omega arith
+
+-- the first one alone begins as it does
+pub first_alone : {X Y : Type 0} (f : X → List Y) (xs : List X) (i : ℕ) (d : X) → i ≡ 0 → (rest : List Y) × (f (get_or xs i d) ≡ f (get_or xs 0 d) ++ rest)
+first_alone f xs i d zeroth = ([], ap (λ (n : ℕ). f (get_or xs n d)) zeroth ∙ sym (append-nil (f (get_or xs 0 d))))

@@ -24,7 +24,8 @@ OthersRunWhole = (w : Setting) (start : HartStart) (begun : List TrailItem) (sea
 abbrev pub WaysStay : Type 0
 WaysStay = (w : Setting) (journal more : List Event) (start : HartStart) (h : ℕ) (reason : HartEnd) (trail : List TrailItem)
     → LeavesToItsEnd w journal start h reason trail → AreOthers h more
-    → (h ≡ 0 → have_exited w (after (journal ++ more)) ≡ have_exited w (after journal)) → (h ≡ 0 → all_finis (after (journal ++ more)) ≡ all_finis (after journal))
+    → (h ≡ 0 → have_exited w (after (journal ++ more)) ≡ have_exited w (after journal))
+    → (h ≡ 0 → all_finis (after (journal ++ more)) ≡ all_finis (after journal))
     → LeavesToItsEnd w (journal ++ more) start h reason trail
 
 -- ---- events of nobody, which settle grants

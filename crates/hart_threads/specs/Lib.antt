@@ -1,4 +1,5 @@
 pub mod Binding
+pub mod Constructed
 pub mod Ends
 pub mod Keeping
 pub mod Laws

@@ -36,9 +36,9 @@ impl<J: Opening> HartRun<J> {
         requires ended { IsSome self.old.hart.hart.«end» }
         requires once { times_ended 0 (after self.old.seat.heard).endings ≤ 1 }
         ensures through { IsThrough J.setting J.journal self.old.seat self.new.seat }
-        ensures whole { (start : HartStart) (begun : List TrailItem) → start.registers ≡ starting_registers entry → start.from ≤ length self.old.seat.heard
-            → IsNewAt start self.old.seat → RunsBy J.setting start.from start.hart begun self.old.seat self.old.hart.hart
-            → RanWhole J.setting start begun self.new.seat result }
+        ensures whole { (start : HartStart) (begun : List TrailItem) → start.registers ≡ starting_registers entry
+            → start.from ≤ length self.old.seat.heard → IsNewAt start self.old.seat
+            → RunsBy J.setting start.from start.hart begun self.old.seat self.old.hart.hart → RanWhole J.setting start begun self.new.seat result }
     {
         trails_grow();
         turns_append();

@@ -3,13 +3,15 @@
 ghost use Rattle.std.specs.Prelude.{◌≡◌, ◌<◌, ◌≤◌, ℕ, false, All, List, length, slice_index_or};
 ghost use Rattle.hart_moves.specs.Starting.{HartStart, starting_registers};
 ghost use Rattle.hart_linker.specs.Between.{HasHeard, Hears};
-ghost use Rattle.hart_threads.specs.Ends.{IsAtStart, IsNewAt, IsThrough, RanWhole};
-ghost use Rattle.hart_threads.specs.Run.{HasStarted, IsReady, IsTold, RunsOn, RunsToEnd};
+ghost use Rattle.hart_threads.specs.Ends.{IsAtStart, IsNewAt, IsThrough, IsToldOf, RanBehind, RanFirst, RanWhole, RunsAlone};
+ghost use Rattle.hart_threads.specs.Run.{HasStarted, IsReady, IsTold, IsUnrun, RunsOn, RunsToEnd};
+ghost use Rattle.history_event.specs.declared.event.Event.{Event};
 ghost use Rattle.hart_threads.specs.Turns.{RunsBy};
 ghost use Rattle.word_rule.specs.Views.{BeginsWith, IsLane};
 ghost use Rattle.word_rule.specs.declared.view.TrailItem.{TrailItem};
 
 use crate::run::HartRun;
+use hart_fits::harts_fit;
 use hart_linker::{Linker, Opening};
 use hart_moves::turns_append;
 use hart_trails::trails_grow;
@@ -44,8 +46,8 @@ fn run_all<R: Threads + Wait + Sync, J: Opening + Send + Sync, K: Linker<J> + Sy
     requires ready { All (λ run. IsReady J.setting J.journal run.seat run.hart.hart run.blocks) runs.old }
     requires over { (d : _) → HasStarted (slice_index_or runs.old 0 d).hart.hart }
     ensures { (i : ℕ) (d : _) → i < length runs.old
-        → RunsToEnd J.setting J.journal (slice_index_or runs.old i d).seat (slice_index_or runs.new i d).seat (slice_index_or runs.old i d).hart.hart
-        (slice_index_or runs.new i d).hart.hart (slice_index_or runs.new i d).blocks }
+        → RunsToEnd J.setting J.journal (slice_index_or runs.old i d).seat (slice_index_or runs.new i d).seat
+        (slice_index_or runs.old i d).hart.hart (slice_index_or runs.new i d).hart.hart (slice_index_or runs.new i d).blocks }
 {
     for_each_mut(rt, runs, HARTS, &|_, run| run_one(rt, linker, memory, run));
 }
@@ -60,9 +62,10 @@ fn start_first<R: Wait, J: Opening, K: Linker<J>>(
     requires some { 0 < length runs.old }
     requires ready { All (λ run. IsReady J.setting J.journal run.seat run.hart.hart run.blocks) runs.old }
     ensures ready { All (λ run. IsReady J.setting J.journal run.seat run.hart.hart run.blocks) runs.new }
-    ensures first { (d : _) → RunsOn J.setting J.journal (slice_index_or runs.old 0 d).seat (slice_index_or runs.new 0 d).seat (slice_index_or runs.old 0 d).hart.hart
-        (slice_index_or runs.new 0 d).hart.hart (slice_index_or runs.new 0 d).blocks }
+    ensures first { (d : _) → RunsOn J.setting J.journal (slice_index_or runs.old 0 d).seat (slice_index_or runs.new 0 d).seat
+        (slice_index_or runs.old 0 d).hart.hart (slice_index_or runs.new 0 d).hart.hart (slice_index_or runs.new 0 d).blocks }
     ensures over { (d : _) → HasStarted (slice_index_or runs.new 0 d).hart.hart }
+    ensures calling { (d : _) → (slice_index_or runs.new 0 d).seat.lane.calling ≡ false }
     ensures others { (i : ℕ) (d : _) → 0 < i → slice_index_or runs.new i d ≡ slice_index_or runs.old i d }
 {
     runs[0].start(rt, linker, memory);
@@ -102,7 +105,9 @@ fn tell_others<R: Wait, J: Opening, K: Linker<J>>(
     requires heard { All (λ run. HasHeard J.setting J.journal run.seat) others.old }
     requires calling { All (λ run. run.seat.lane.calling ≡ false) others.old }
     ensures first { Hears J.setting J.journal first.old first.new }
-    ensures told { (i : ℕ) (d : _) → i < length others.old → IsTold J.setting J.journal first.new (slice_index_or others.old i d).seat (slice_index_or others.new i d).seat }
+    ensures told { (i : ℕ) (d : _) → i < length others.old
+        → IsTold J.setting J.journal first.new (slice_index_or others.old i d).seat (slice_index_or others.new i d).seat }
+    ensures since { (i : ℕ) (d : _) → i < length others.old → BeginsWith (slice_index_or others.new i d).seat.heard first.old.heard }
     ensures harts { (i : ℕ) (d : _) → (slice_index_or others.new i d).hart ≡ (slice_index_or others.old i d).hart }
     ensures blocks { (i : ℕ) (d : _) → (slice_index_or others.new i d).blocks ≡ (slice_index_or others.old i d).blocks }
 {
@@ -123,12 +128,67 @@ fn tell_all<R: Wait, J: Opening, K: Linker<J>>(
     requires calling { All (λ run. run.seat.lane.calling ≡ false) runs.old }
     ensures told { (i : ℕ) (d : _) → i < length runs.old
         → IsTold J.setting J.journal (slice_index_or runs.new 0 d).seat (slice_index_or runs.old i d).seat (slice_index_or runs.new i d).seat }
+    ensures since { (i : ℕ) (d : _) → i < length runs.old → BeginsWith (slice_index_or runs.new i d).seat.heard (slice_index_or runs.old 0 d).seat.heard }
     ensures harts { (i : ℕ) (d : _) → (slice_index_or runs.new i d).hart ≡ (slice_index_or runs.old i d).hart }
     ensures blocks { (i : ℕ) (d : _) → (slice_index_or runs.new i d).blocks ≡ (slice_index_or runs.old i d).blocks }
 {
     let _ = runs[0].seat.number();
     let (first, others) = runs.split_at_mut(1);
     tell_others(rt, linker, memory, &mut first[0].seat, others);
+}
+
+/// Tells harts of what the first one has done alone. It hears with the second one, and each other with that one: so
+/// they all have heard of what it has then.
+fn tell_begun<R: Wait, J: Opening, K: Linker<J>>(
+    rt: &R,
+    linker: &K,
+    memory: &Memory<J>,
+    runs: &mut [HartRun<J>],
+)
+    requires some { 0 < length runs.old }
+    requires heard { All (λ run. HasHeard J.setting J.journal run.seat) runs.old }
+    requires calling { All (λ run. run.seat.lane.calling ≡ false) runs.old }
+    ensures hears { (i : ℕ) (d : _) → i < length runs.old
+        → Hears J.setting J.journal (slice_index_or runs.old i d).seat (slice_index_or runs.new i d).seat }
+    ensures lanes { All (λ run. IsLane run.seat.lane) runs.old }
+    ensures since { (i : ℕ) (d : _) → i < length runs.old → BeginsWith (slice_index_or runs.new i d).seat.heard (slice_index_or runs.new 0 d).seat.heard }
+    ensures harts { (i : ℕ) (d : _) → (slice_index_or runs.new i d).hart ≡ (slice_index_or runs.old i d).hart }
+    ensures blocks { (i : ℕ) (d : _) → (slice_index_or runs.new i d).blocks ≡ (slice_index_or runs.old i d).blocks }
+{
+    let _ = runs[0].seat.number();
+    let (first, others) = runs.split_at_mut(1);
+    if others.is_empty() {
+        return;
+    }
+    tell_both(rt, linker, memory, &mut first[0].seat, &mut others[0].seat);
+    tell_all(rt, linker, memory, others);
+}
+
+/// Runs the first hart alone until startup's constructors are over, and tells all harts of what it did.
+fn start_apart<R: Wait, J: Opening, K: Linker<J>>(
+    rt: &R,
+    linker: &K,
+    memory: &Memory<J>,
+    runs: &mut [HartRun<J>],
+)
+    requires some { 0 < length runs.old }
+    requires harts { length runs.old ≡ J.setting.machine.harts }
+    requires ready { All (λ run. IsReady J.setting J.journal run.seat run.hart.hart run.blocks) runs.old }
+    requires numbers { (i : ℕ) (d : _) → i < length runs.old → (slice_index_or runs.old i d).seat.number ≡ i }
+    requires heard { All (λ run. run.seat.heard ≡ J.journal) runs.old }
+    requires unrun { All (λ run. IsUnrun run.seat run.hart.hart) runs.old }
+    ensures ready { All (λ run. IsReady J.setting J.journal run.seat run.hart.hart run.blocks) runs.new }
+    ensures over { (d : _) → HasStarted (slice_index_or runs.new 0 d).hart.hart }
+    ensures apart { (alone : List Event)
+        × ((d : _) → RunsAlone J.setting J.journal alone (slice_index_or runs.old 0 d).seat (slice_index_or runs.new 0 d).seat
+        (slice_index_or runs.old 0 d).hart.hart (slice_index_or runs.new 0 d).hart.hart)
+        × ((i : ℕ) (d : _) → 0 < i → i < length runs.old
+        → IsToldOf J.setting J.journal alone (slice_index_or runs.old i d).seat (slice_index_or runs.new i d).seat) }
+    ensures others { (i : ℕ) (d : _) → 0 < i → (slice_index_or runs.new i d).hart ≡ (slice_index_or runs.old i d).hart }
+{
+    harts_fit();
+    start_first(rt, linker, memory, runs);
+    tell_begun(rt, linker, memory, runs);
 }
 
 /// Runs the harts of a run: the first alone until startup's constructors are over, then all side by side,
@@ -142,23 +202,29 @@ pub fn run_harts<R: Threads + Wait + Sync, J: Opening + Send + Sync, K: Linker<J
     entry: HartEntry,
 ) -> HartEnd
     requires some { 0 < length runs.old }
-    requires harts { 0 < J.setting.machine.harts }
+    requires harts { length runs.old ≡ J.setting.machine.harts }
     requires ready { All (λ run. IsReady J.setting J.journal run.seat run.hart.hart run.blocks) runs.old }
-    requires zeroth { (d : _) → (slice_index_or runs.old 0 d).seat.number ≡ 0 }
+    requires numbers { (i : ℕ) (d : _) → i < length runs.old → (slice_index_or runs.old i d).seat.number ≡ i }
+    requires heard { All (λ run. run.seat.heard ≡ J.journal) runs.old }
     requires starts { (d : _) → IsAtStart (slice_index_or runs.old 0 d).hart.hart }
+    requires unrun { All (λ run. IsUnrun run.seat run.hart.hart) runs.old }
     ensures first { (d : _) (start : HartStart) (begun : List TrailItem) → start.registers ≡ starting_registers entry
         → start.from ≤ length (slice_index_or runs.old 0 d).seat.heard → IsNewAt start (slice_index_or runs.old 0 d).seat
         → RunsBy J.setting start.from start.hart begun (slice_index_or runs.old 0 d).seat (slice_index_or runs.old 0 d).hart.hart
         → RanWhole J.setting start begun (slice_index_or runs.new 0 d).seat result }
     ensures through { (d : _) → IsThrough J.setting J.journal (slice_index_or runs.old 0 d).seat (slice_index_or runs.new 0 d).seat }
-    ensures others { (i : ℕ) (d : _) → 0 < i → i < length runs.old
-        → RunsToEnd J.setting J.journal (slice_index_or runs.old i d).seat (slice_index_or runs.new i d).seat (slice_index_or runs.old i d).hart.hart
-        (slice_index_or runs.new i d).hart.hart (slice_index_or runs.new i d).blocks }
-    ensures fronts { (i : ℕ) (d : _) → 0 < i → i < length runs.old → BeginsWith (slice_index_or runs.new 0 d).seat.heard (slice_index_or runs.new i d).seat.heard }
+    ensures apart { (alone : List Event)
+        × ((d : _) → RanFirst J.setting J.journal alone (starting_registers entry) (slice_index_or runs.old 0 d).seat
+        (slice_index_or runs.new 0 d).seat (slice_index_or runs.old 0 d).hart.hart result)
+        × ((i : ℕ) (d : _) → 0 < i → i < length runs.old
+        → RanBehind J.setting J.journal alone (slice_index_or runs.old i d).seat (slice_index_or runs.new i d).seat
+        (slice_index_or runs.old i d).hart.hart (slice_index_or runs.new i d).hart.hart (slice_index_or runs.new i d).blocks) }
+    ensures fronts { (i : ℕ) (d : _) → 0 < i → i < length runs.old
+        → BeginsWith (slice_index_or runs.new 0 d).seat.heard (slice_index_or runs.new i d).seat.heard }
 {
     trails_grow();
     turns_append();
-    start_first(rt, linker, memory, runs);
+    start_apart(rt, linker, memory, runs);
     run_all(rt, linker, memory, runs);
     tell_all(rt, linker, memory, runs);
     runs[0].finish(rt, linker, memory, entry)

@@ -1,7 +1,9 @@
 //! What a hart's next turn is.
 
+ghost use Rattle.std.specs.Prelude.{◌≡◌, true};
 ghost use Rattle.hart_moves.specs.Due.{due};
 ghost use Rattle.hart_threads.specs.Next.{IsNext};
+ghost use Rattle.hart_threads.specs.Run.{HoldsNoSlot};
 ghost use Rattle.history_state.specs.State.{State};
 
 use hart_seat::{Call, Due, LinkedHart, Purpose};
@@ -44,5 +46,15 @@ pub fn next_turn(hart: &LinkedHart) -> Next
         Due::Complete(Purpose::End(_), ..) => Next::Finalise,
         Due::Complete(..) => Next::Serve,
         Due::Instruction | Due::Copy(..) | Due::Store { .. } | Due::Enter(_) => Next::Quiet,
+    }
+}
+
+/// Whether the hart holds no slot that was granted.
+pub(crate) fn holds_no_slot(hart: &LinkedHart) -> bool
+    ensures { result ≡ true → HoldsNoSlot hart.now.hart }
+{
+    match next_turn(hart) {
+        Next::Bind => false,
+        _ => true,
     }
 }

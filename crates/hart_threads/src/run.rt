@@ -1,9 +1,11 @@
 //! The loop of one hart.
 
 ghost use Rattle.std.specs.Prelude.{◌≡◌, ◌<◌, true, false, None, IsSome};
+ghost use Rattle.std.specs.List.{list_any};
 ghost use Rattle.hart_moves.specs.Due.{Due as is_due, back, due};
+ghost use Rattle.hart_moves.specs.Harts.{is_startup_frame};
 ghost use Rattle.hart_threads.specs.Next.{HoldsSlot};
-ghost use Rattle.hart_threads.specs.Run.{HasStarted, IsCalm, RunsOn};
+ghost use Rattle.hart_threads.specs.Run.{HoldsNoSlot, IsBegun, IsCalm, RunsOn};
 ghost use Rattle.hart_threads.specs.Turns.{SpendsFuel};
 ghost use Rattle.hart_trails.specs.Trails.{is_located};
 ghost use Rattle.hart_turns.specs.Turns.{is_own};
@@ -14,7 +16,7 @@ ghost use Rattle.hart_linker.specs.Serving.{is_asking, is_finalising};
 
 use crate::binding::bind_slot;
 use crate::keeping::kept_block;
-use crate::next::{Next, next_turn};
+use crate::next::{Next, holds_no_slot, next_turn};
 use crate::quiet::{end_of, take_quiet};
 use hart_fits::own_moves_fit;
 use hart_linker::{HartBlocks, Linker, Opening};
@@ -34,16 +36,25 @@ pub struct HartRun<J: Opening> {
 }
 
 impl<J: Opening> HartRun<J> {
-    /// Runs until the constructors of startup are over, or the hart has ended, at the latest for its fuel.
+    /// Runs until the constructors of startup are over and no slot is held, or the hart has ended, at the latest for
+    /// its fuel.
     pub fn start<R: Wait, K: Linker<J>>(&mut self, rt: &R, linker: &K, memory: &Memory<J>)
         requires between { IsBetweenTurns J.setting J.journal self.old.seat self.old.hart.hart self.old.blocks }
         requires calm { IsCalm self.old.seat self.old.hart.hart }
         ensures runs { RunsOn J.setting J.journal self.old.seat self.new.seat self.old.hart.hart self.new.hart.hart self.new.blocks }
-        ensures over { HasStarted self.new.hart.hart }
+        ensures begun { IsBegun self.new.hart.hart }
     {
-        while self.hart.end().is_none() && self.hart.is_starting() {
+        while self.hart.end().is_none() && !self.has_started() {
             self.turn(rt, linker, memory);
         }
+    }
+
+    /// Whether the constructors of startup are over, and no slot is held.
+    fn has_started(&self) -> bool
+        ensures over { result ≡ true → list_any is_startup_frame self.now.hart.hart.frames ≡ false }
+        ensures free { result ≡ true → HoldsNoSlot self.now.hart.hart }
+    {
+        !self.hart.is_starting() && holds_no_slot(&self.hart)
     }
 
     /// Runs until the hart has ended, at the latest for its fuel.

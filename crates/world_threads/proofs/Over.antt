@@ -1,12 +1,16 @@
 -- A run is over: what its harts' ways and the keeper's last word come to.
-use Rattle.std.proofs.Common.{◌≡◌, ◌⊎◌, ⊎_elim, inl, inr, ℕ, zero, suc, ◌+◌, ◌≤◌, ◌<◌, ◌&&◌, take, List, [], ◌∷◌, ◌++◌, length, map, Option, Some, None, refl, sym, ap, subst, ◌∙◌, append_assoc, arith}
-use Rattle.std.proofs.Math.Seq.{take-append_seam}
+use Rattle.std.proofs.Common.{◌≡◌, ◌≢◌, ◌⊎◌, ⊎_elim, inl, inr, ℕ, zero, suc, ◌+◌, ◌≤◌, ◌<◌, ◌&&◌, drop, take, List, [], ◌∷◌, ◌++◌, length, length-append, lt_of_not-le, map, Option, Some, None, refl, sym, ap, subst, ◌∙◌, append_assoc, arith}
+use Rattle.std.specs.Prelude.{IsTrue}
+use mathlib.Core.Logic.{dite}
+use native.Mathlib.Decide.{dec_le}
+use Rattle.std.proofs.Math.Seq.{drop-append_seam, take-append_seam}
 use Rattle.std.proofs.lemmas.List.{length-map}
 use Rattle.std.specs.Prelude.{nat_le}
 use Rattle.std.specs.List.{Contains, list_all, slice_get}
 use Rattle.std.proofs.lemmas.List.Elements.{Contains-append_right}
 use Rattle.std.proofs.lemmas.Option.{none-some, slice_get_within}
 use Rattle.history_event.specs.declared.event.Event.{Event}
+use Rattle.history_event.specs.declared.event.Event.TheVariants.{Ended}
 use Rattle.history_event.specs.declared.hart_end.HartEnd.{HartEnd}
 use Rattle.history_event.specs.declared.state.Ending.{Ending}
 use Rattle.history_calls.specs.declared.link_served.startup.Setup.{Setup}
@@ -18,27 +22,34 @@ use Rattle.history_state.specs.After.{after}
 use Rattle.history_state.specs.Allowed.{MayEnd}
 use Rattle.history_state.specs.Lemmas.Lists.{at_in, first_or_later, here, later, none_in}
 use Rattle.history_state.specs.Legal.{Legal, Whole}
-use Rattle.history_state.specs.Setting.{Setting, exited}
+use Rattle.history_state.specs.Setting.{Setting, exited, have_exited}
 use Rattle.hart_fits.specs.Over.{RunningIsNotOver, RunsYet}
-use Rattle.hart_moves.specs.Follows.{AreOthers, HasNone}
+use Rattle.hart_moves.specs.Follows.{AreOthers, FollowsToItsEnd, HasNone}
 use Rattle.hart_moves.specs.Laws.{EndedStays}
+use Rattle.hart_moves.specs.Moves.{all_finis}
+use Rattle.hart_moves.specs.Starting.{HartStart, IsStartOf}
 use Rattle.hart_moves.specs.TurnEvents.Laws.{TurnsAppend}
+use Rattle.hart_threads.specs.Constructed.{GoesOn}
 use Rattle.hart_threads.specs.Laws.{WaysStay}
 use Rattle.hart_trails.specs.Ends.{EndIsLast, StartIsFresh}
 use Rattle.hart_trails.specs.Laws.{EndsFollow, MarksFollow}
+use Rattle.hart_trails.specs.Owners.{AreOfHarts}
 use Rattle.hart_trails.specs.Trails.{LeavesToItsEnd}
-use Rattle.kept_words.specs.Kept.{AreKept}
+use Rattle.kept_words.specs.Kept.{AreKept, IsFateEvent}
 use Rattle.kept_words.specs.Over.{IsFinished, IsOver}
 use Rattle.link_keeper.specs.Finishing.{IsExchangeOf, RunIsOver, TrailIsClosed, knows}
-use Rattle.link_keeper.specs.Keeping.{FirstGoesOn}
-use Rattle.trace_text.specs.RunTexts.Ends.{last_end}
+use Rattle.link_keeper.specs.Keeping.{FirstGoesOn, WasOver}
+use Rattle.trace_text.specs.RunTexts.Ends.{AreLastEnds, last_end}
 use Rattle.trace_text.specs.declared.run_texts.record.RunRecord.{RunRecord}
+use Rattle.word_rule.specs.declared.view.Fate.{Fate}
 use Rattle.word_rule.specs.declared.view.HartView.{HartView}
+use Rattle.word_rule.specs.declared.view.TrailItem.{TrailItem}
 use Rattle.word_rule.specs.declared.view.KeeperView.{KeeperView}
+use Rattle.word_rule.specs.Views.{BeginsWith}
 use Rattle.world_threads.specs.Running.{HaveRun, WayOf}
-use Rattle.world_threads.specs.Threaded.{HartRan, IsThreaded}
+use Rattle.world_threads.specs.Threaded.{HartRan, IsThreaded, set_off_behind}
 use Rattle.world_threads.proofs.Finished.{finishes, nobodys_end, nobodys_leave}
-use Rattle.world_threads.proofs.Journal.{are_by_harts, may as may_end}
+use Rattle.world_threads.proofs.Journal.{are_by_harts, may as may_end, yet_across}
 use Rattle.world_threads.proofs.LastEnds.{last_end_is}
 use Rattle.world_threads.proofs.Started.{none_ended}
 
@@ -78,6 +89,11 @@ behind_in : (front more : List Event) (k : ℕ) (e : Event) → length front ≤
 behind_in [] more k e low got = at_in more k e got
 behind_in (x ∷ front) more zero e low got = absurd (let no : suc (length front) ≤ 0 = low in omega (arith, no))
 behind_in (x ∷ front) more (suc k) e low got = behind_in front more k e (let less : suc (length front) ≤ suc k = low in omega (arith, less)) got
+
+front_part : (xs ys : List Event) (k : ℕ) → k < length xs → slice_get (xs ++ ys) k ≡ slice_get xs k
+front_part [] ys k low = absurd (let no : k < 0 = low in omega (arith, no))
+front_part (x ∷ xs) ys zero low = refl
+front_part (x ∷ xs) ys (suc k) low = front_part xs ys k (let less : suc k < suc (length xs) = low in omega (arith, less))
 
 -- ---- harts' views in their order
 
@@ -161,17 +177,31 @@ module _ (laws : Laws) (w : Setting) (setup : Setup) (past : List Event) (starte
     pub closed : TrailIsClosed w past journal h j
     closed = x.over.trails h j at
 
-    pub of : WayOf w setup past started h reason j
+    pub of : WayOf w setup past x.run.alone started x.run.constructed h reason j
     of = x.run.ways h reason j at_end at
 
     still : h ≡ 0 → (e : Event) → Contains closed.longer.0 e → hart_of e ≡ None
     still zeroth = nobodys j (subst (λ (n : ℕ). slice_get seats n ≡ Some j) zeroth at) closed.longer.0 closed.longer.1
 
-    pub way_on : LeavesToItsEnd w journal of.start h reason j.trail
-    way_on = subst (λ (es : List Event). LeavesToItsEnd w es of.start h reason j.trail) (sym closed.longer.1)
-        (laws.stay w j.heard closed.longer.0 of.start h reason j.trail of.way (others h j at closed.longer.0 closed.longer.1)
+    stays : (start : HartStart) (trail : List TrailItem) → LeavesToItsEnd w j.heard start h reason trail → LeavesToItsEnd w journal start h reason trail
+    stays start trail way = subst (λ (es : List Event). LeavesToItsEnd w es start h reason trail) (sym closed.longer.1)
+        (laws.stay w j.heard closed.longer.0 start h reason trail way (others h j at closed.longer.0 closed.longer.1)
         (λ zeroth. ap (λ (es : List Ending). nat_le w.machine.harts (length es) && list_all exited (take w.machine.harts es)) (nobodys_end j.heard closed.longer.0 (still zeroth)))
         (λ zeroth. nobodys_leave j.heard closed.longer.0 (still zeroth)))
+
+    pub way_on : LeavesToItsEnd w journal of.start h reason j.trail
+    way_on = stays of.start j.trail of.way
+
+    first_on : h ≡ 0 → GoesOn w setup past x.run.alone started x.run.constructed journal reason j.trail
+    first_on zeroth =
+        let goes = of.first zeroth in
+        let start : HartStart = record x.run.constructed.start { from = length (past ++ x.run.alone); hart = x.run.constructed.hart } in
+        record {
+          rest = goes.rest;
+          whole = goes.whole;
+          way = subst (λ (n : ℕ). LeavesToItsEnd w journal start n reason goes.rest) zeroth
+              (stays start goes.rest (subst (λ (n : ℕ). LeavesToItsEnd w j.heard start n reason goes.rest) (sym zeroth) goes.way));
+        }
 
     -- so it is of the view that the keeper keeps
     joined_none : HasNone journal h (length before) (length journal)
@@ -180,11 +210,12 @@ module _ (laws : Laws) (w : Setting) (setup : Setup) (past : List Event) (starte
         let no : None ≡ Some h = sym (x.over.nobodys e there) ∙ own in
         cc no
 
-    pub hart_ran : HartRan w setup past started journal h reason (knows before j)
+    pub hart_ran : HartRan w setup past x.run.alone started x.run.constructed journal h reason (knows before j)
     hart_ran = record {
       start = of.start;
       sets_off = of.sets_off;
       way = way_on;
+      first = first_on;
       says = record {
         number = closed.number;
         longer = (x.over.more, x.over.are);
@@ -209,7 +240,7 @@ module _ (laws : Laws) (w : Setting) (setup : Setup) (past : List Event) (starte
       let j = seat_at seats h low in
       let way = of h reason j.0 at_end j.1 in
       last_end_is journal h way.start.from reason
-      (laws.last w journal way.start h reason j.0.trail (laws.fresh setup.fuel past started h way.start way.sets_off) (way_on h reason j.0 at_end j.1))
+      (laws.last w journal way.start h reason j.0.trail (laws.fresh setup.fuel (set_off_behind past x.run.alone h) started h way.start way.sets_off) (way_on h reason j.0 at_end j.1))
 
   -- ---- the whole of it
 
@@ -222,6 +253,47 @@ module _ (laws : Laws) (w : Setting) (setup : Setup) (past : List Event) (starte
       let start = (of 0 reason.0 j.0 reason.1 j.1).start in
       finishes laws.append laws.ended w journal start reason.0 goes_on (laws.follow w journal start 0 reason.0 j.0.trail (way_on 0 reason.0 j.0 reason.1 j.1)) finals
 
+  -- ---- startup's constructors come first
+
+  first_seat : (j : HartView) × (slice_get seats 0 ≡ Some j)
+  first_seat = seat_at seats 0 (let some = x.some in let all = x.run.all in omega (arith, some, all))
+
+  first_end : (reason : HartEnd) × (slice_get ends 0 ≡ Some reason)
+  first_end = end_at ends 0 (let some = x.some in let all = x.run.all_end in omega (arith, some, all))
+
+  begins_alone : BeginsWith journal (past ++ x.run.alone)
+  begins_alone =
+      let longer = (closed 0 first_end.0 first_seat.0 first_end.1 first_seat.1).longer in
+      let begun = x.run.begun first_seat.0 first_seat.1 in
+      (begun.0 ++ longer.0, longer.1 ∙ ap (λ (es : List Event). es ++ longer.0) begun.1 ∙ append_assoc (past ++ x.run.alone) begun.0 longer.0)
+
+  behind_alone : (rest : List Event) × (x.over.begins.0 ≡ x.run.alone ++ rest)
+  behind_alone = (begins_alone.0, sym (drop-append_seam past x.over.begins.0) ∙ ap (drop (length past)) (sym x.over.begins.1 ∙ begins_alone.1 ∙ append_assoc past x.run.alone begins_alone.0)
+      ∙ drop-append_seam past (x.run.alone ++ begins_alone.0))
+
+  -- an event of another hart stands behind them
+  late : (h k : ℕ) (e : Event) → length past ≤ k → slice_get journal k ≡ Some e → hart_of e ≡ Some h → length (set_off_behind past x.run.alone h) ≤ k
+  late zero k e low there is = low
+  late (suc h) k e low there is = dite (dec_le (length (past ++ x.run.alone)) k)
+      (λ (behind : length (past ++ x.run.alone) ≤ k). behind)
+      (λ (early : ¬ (length (past ++ x.run.alone) ≤ k)).
+      let inside : Contains x.run.alone e = behind_in past x.run.alone k e low
+      (sym (front_part (past ++ x.run.alone) begins_alone.0 k (lt_of_not-le early)) ∙ ap (λ (es : List Event). slice_get es k) (sym begins_alone.1) ∙ there) in
+      absurd (let no : suc h ≡ 0 = x.run.constructed.own e (suc h) inside is in omega (arith, no)))
+
+  -- so no end of its hart stands before it
+  front_low : (h : ℕ) → length past ≤ length (set_off_behind past x.run.alone h)
+  front_low zero = omega arith
+  front_low (suc h) = let long : length (past ++ x.run.alone) ≡ length past + length x.run.alone = length-append past x.run.alone in omega (arith, long)
+
+  at_start : Starts w setup past started → (h : ℕ) → RunsYet h (take (length past) journal)
+  at_start starts h = subst (RunsYet h) (sym (ap (take (length past)) x.over.begins.1 ∙ take-append_seam past x.over.begins.0))
+      (λ there. none_in h (subst (λ (es : List Ending). Contains (map (λ e. e.hart) es) h) (none_ended w setup past started starts) there))
+
+  none_yet : Starts w setup past started → (h : ℕ) → RunsYet h (take (length (set_off_behind past x.run.alone h)) journal)
+  none_yet starts h = yet_across w journal h (length past) (length (set_off_behind past x.run.alone h)) (front_low h)
+      (λ k reason since before there. let behind = late h k (Ended h reason) since there refl in omega (arith, before, behind)) (at_start starts h)
+
   -- before each of its events its hart may end
   may : Starts w setup past started → (h k : ℕ) (e : Event) → h < w.machine.harts → length past ≤ k → slice_get journal k ≡ Some e → hart_of e ≡ Some h → MayEnd w (after (take k journal)) h
   may starts h k e less low there is =
@@ -230,11 +302,10 @@ module _ (laws : Laws) (w : Setting) (setup : Setup) (past : List Event) (starte
       let j = seat_at seats h (omega (arith, less, seats_are)) in
       let reason = end_at ends h (omega (arith, less, ends_are)) in
       let way = of h reason.0 j.0 reason.1 j.1 in
-      may_end laws.running w journal x.over.legal x.over.own goes_on h less way.start reason.0 (laws.fresh setup.fuel past started h way.start way.sets_off).runs
-      (subst (λ (es : List Event). RunsYet h es) (sym (ap (λ (n : ℕ). take n journal) way.sets_off.from ∙ ap (take (length past)) x.over.begins.1 ∙ take-append_seam past x.over.begins.0))
-      (λ there. none_in h (subst (λ (es : List Ending). Contains (map (λ e. e.hart) es) h) (none_ended w setup past started starts) there)))
+      may_end laws.running w journal x.over.legal x.over.own goes_on h less way.start reason.0 (laws.fresh setup.fuel (set_off_behind past x.run.alone h) started h way.start way.sets_off).runs
+      (subst (λ (n : ℕ). RunsYet h (take n journal)) (sym way.sets_off.from) (none_yet starts h))
       (laws.follow w journal way.start h reason.0 j.0.trail (way_on h reason.0 j.0 reason.1 j.1))
-      k e (let from : way.start.from ≡ length past = way.sets_off.from in omega (arith, from, low)) there is
+      k e (let from : way.start.from ≡ length (set_off_behind past x.run.alone h) = way.sets_off.from in let behind = late h k e low there is in omega (arith, from, behind)) there is
 
   -- so startup's events and those are the journal of a run
   by_harts : Starts w setup past started → IsRunJournal w setup (past ++ x.over.begins.0)
@@ -255,6 +326,10 @@ module _ (laws : Laws) (w : Setting) (setup : Setup) (past : List Event) (starte
       → trails.joined ≡ map (knows before) seats → AreKept w past trails → IsOver trails → Starts w setup past started → IsThreaded w setup left trails
   threaded left trails events_are ends_are counted joined kept known starts = record {
     by = by_of starts left.journal.events events_are;
+    alone = x.run.alone;
+    more = behind_alone.0;
+    others_are = behind_alone.1;
+    constructed = x.run.constructed;
     legal = subst (Legal w) (sym events_are) x.over.legal;
     whole = subst (Whole w) (sym events_are) (x.over.whole finished);
     counted = counted ∙ sym events_are;
@@ -268,8 +343,8 @@ module _ (laws : Laws) (w : Setting) (setup : Setup) (past : List Event) (starte
     all_told = ap length joined ∙ length-map seats (knows before) ∙ x.run.all;
     each = λ h reason hart at_end at.
         let got = from_map (knows before) seats h hart (subst (λ (js : List HartView). slice_get js h ≡ Some hart) joined at) in
-        subst (λ (es : List Event). HartRan w setup past started es h reason hart) (sym events_are)
-        (subst (HartRan w setup past started journal h reason) got.2 (hart_ran h reason got.0 (subst (λ (rs : List HartEnd). slice_get rs h ≡ Some reason) ends_are at_end) got.1));
+        subst (λ (es : List Event). HartRan w setup past x.run.alone started x.run.constructed es h reason hart) (sym events_are)
+        (subst (HartRan w setup past x.run.alone started x.run.constructed journal h reason) got.2 (hart_ran h reason got.0 (subst (λ (rs : List HartEnd). slice_get rs h ≡ Some reason) ends_are at_end) got.1));
     fates = λ number f e there is.
         let of_seat = x.over.fates number f e (subst (λ (es : List Event). Contains es e) events_are there) is in
         subst (λ (es : List Event). IsExchangeOf es trails.joined number f e) (sym events_are) (record {

@@ -1,5 +1,5 @@
 -- What a run on threads leaves. For whoever prints it, and for whoever judges its harts' trails.
-use Rattle.std.specs.Prelude.{◌≡◌, ℕ, List, [], length, Some, Result, Ok, Err, Contains}
+use Rattle.std.specs.Prelude.{◌≡◌, ℕ, zero, suc, List, [], ◌++◌, length, Some, Result, Ok, Err, Contains}
 use Rattle.std.specs.List.{slice_get}
 use Rattle.history_event.specs.declared.event.Event.{Event}
 use Rattle.history_event.specs.declared.hart_end.HartEnd.{HartEnd}
@@ -12,6 +12,7 @@ use Rattle.history_state.specs.After.{after}
 use Rattle.history_state.specs.Legal.{Legal, Whole}
 use Rattle.history_state.specs.Setting.{Setting}
 use Rattle.hart_moves.specs.Starting.{HartStart, IsStartOf}
+use Rattle.hart_threads.specs.Constructed.{GoesOn, IsConstructed}
 use Rattle.hart_trails.specs.Trails.{LeavesToItsEnd}
 use Rattle.kept_words.specs.Kept.{AreKept, IsFateEvent}
 use Rattle.kept_words.specs.Over.{IsOver}
@@ -24,14 +25,22 @@ use Rattle.word_rule.specs.declared.view.HartView.{HartView}
 use Rattle.word_rule.specs.declared.view.KeeperView.{KeeperView}
 use Rattle.world_threads.specs.declared.run.Ran.{Ran}
 
--- what a hart did over the run's journal, of which startup appended `past`: its last view has its whole trail
-pub record HartRan (w : Setting) (setup : Setup) (past : List Event) (started : Started) (journal : List Event) (h : ℕ) (reason : HartEnd)
-    (hart : HartView) : Type 0 where
+-- behind these events a hart takes its first turn: the first one behind startup's, each other one behind its constructors, too
+abbrev pub set_off_behind : (past alone : List Event) → ℕ → List Event
+set_off_behind past alone zero = past
+set_off_behind past alone (suc h) = past ++ alone
+
+-- what a hart did over the run's journal, of which startup appended `past`, and behind which `alone` stands where its constructors are over: its last
+-- view has its whole trail
+pub record HartRan (w : Setting) (setup : Setup) (past alone : List Event) (started : Started) (constructed : IsConstructed w setup past alone started)
+    (journal : List Event) (h : ℕ) (reason : HartEnd) (hart : HartView) : Type 0 where
   pub start : HartStart
-  pub sets_off : IsStartOf setup.fuel past started h start
+  pub sets_off : IsStartOf setup.fuel (set_off_behind past alone h) started h start
   -- its trail is what its turns left, one after another, each a move behind the events that stood there then: they bring it from where startup
   -- sets it off to this end, the one that counts for it, and none of its events is left out
   pub way : LeavesToItsEnd w journal start h reason hart.trail
+  -- the first hart's turns run the constructors first
+  pub first : h ≡ 0 → GoesOn w setup past alone started constructed journal reason hart.trail
   -- each entry of the trail is true of the journal, and those of events are its events behind startup's, in order; exchanges that won are of its
   -- grants that were bound, the others of those that were lost, and no grant is exchanged twice; each block that it read itself is that of the
   -- last answer before
@@ -49,6 +58,11 @@ left_events (Err starts.Memory) = []
 pub record IsThreaded (w : Setting) (setup : Setup) (left : RunRecord) (trails : KeeperView) : Type 0 where
   -- its events are startup's, and then those of harts that there are and that hadn't ended
   pub by : IsRunJournal w setup left.journal.events
+  -- startup's constructors come first: where these stand behind its events they are over, and no other hart has taken a turn
+  pub alone : List Event
+  pub more : List Event
+  pub others_are : by.others ≡ alone ++ more
+  pub constructed : IsConstructed w setup by.startup alone by.started
   -- one legal history: no grant is open, what a lost grant of a mapped object saw is its slot's value, and where each hart ended once, by exit,
   -- what was initialised was finalised
   pub legal : Legal w left.journal.events
@@ -63,7 +77,7 @@ pub record IsThreaded (w : Setting) (setup : Setup) (left : RunRecord) (trails :
   -- and a trail that leads there
   pub all_told : length trails.joined ≡ w.machine.harts
   pub each : (h : ℕ) (reason : HartEnd) (hart : HartView) → slice_get left.ends h ≡ Some reason → slice_get trails.joined h ≡ Some hart
-      → HartRan w setup by.startup by.started left.journal.events h reason hart
+      → HartRan w setup by.startup alone by.started constructed left.journal.events h reason hart
   -- each grant that was bound is one that an exchange in its hart's trail won, and each that was lost one that it lost, to the word that its event shows
   pub fates : (number : ℕ) (f : Fate) (e : Event) → Contains left.journal.events e → IsFateEvent number f e
       → IsExchangeOf left.journal.events trails.joined number f e

@@ -1,5 +1,5 @@
 use Rattle.std.proofs.Common.{ap, refl, sym, subst, get_or}
-use Rattle.word_rule.specs.Views.{IsLane}
+use Rattle.word_rule.specs.Views.{BeginsWith, IsLane}
 use Rattle.hart_linker.specs.Between.{Hears}
 use Rattle.hart_threads.specs.Run.{IsTold}
 use Rattle.hart_threads.proofs.Hearing.{told_same}
@@ -18,6 +18,15 @@ returns-clause-told g c =
     refl
     (subst (λ h. IsLane h.lane) (ap (λ x. x.seat) (first_is c.args.runs.now c.index-runs-0.result d c.requires.some)) c.number.ensures.lane))
     c.tell_others.ensures.told
+
+pub returns-clause-since : goal.returns-clause-since
+returns-clause-since g c = λ i d low.
+    let split = c.split_at_mut-first in
+    let first = ap (λ x. x.seat.heard) (sym (front_is split.result.0.now split.result.1.now c.args.runs.now split.ensures.front_len split.ensures.value d c.index-first-0.result)) in
+    one_and (λ now before x. BeginsWith x.seat.heard (get_or c.args.runs.now 0 d).seat.heard) split.result.0.now split.result.1.now c.args.runs.now c.tell_others.new.others _ split.ensures.front_len split.ensures.value
+    (λ e. subst (λ es. BeginsWith c.tell_others.new.first.heard es) first c.tell_others.ensures.first.longer)
+    (λ k e inside. subst (λ es. BeginsWith (get_or c.tell_others.new.others k e).seat.heard es) first (c.tell_others.ensures.since k e inside))
+    i d low
 
 pub returns-clause-harts : goal.returns-clause-harts
 returns-clause-harts g c =

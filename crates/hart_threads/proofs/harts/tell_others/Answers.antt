@@ -1,6 +1,7 @@
 use Rattle.std.proofs.Common.{◌≡◌, ◌<◌, ap, subst, sym, ◌∙◌, length, get_or, arith}
 use Rattle.hart_threads.specs.Run.{IsTold}
-use Rattle.hart_threads.proofs.Hearing.{hears_more, told_same, told_still}
+use Rattle.word_rule.specs.Views.{BeginsWith}
+use Rattle.hart_threads.proofs.Hearing.{front_of, hears_more, told_same, told_still}
 use Rattle.hart_threads.proofs.Slices.{any_is, set_cases}
 use Rattle.hart_threads.proofs.harts.tell_others.Goals as goal
 
@@ -20,6 +21,10 @@ loop-other-preserved g c =
           (ap (λ x. x.seat) (any_is all n r d low_here ∙ inv.rest n d (omega arith) ∙ ap (λ k. get_or c.args.others.now k d) (sym same)))
           (told_same w begun c.tell_both.new.one (get_or all n r).seat c.tell_both.new.other c.tell_both.ensures.other c.tell_both.ensures.same c.tell_both.ensures.lane))
           (λ apart. told_still w begun c.loop-other.first c.tell_both.new.one (get_or c.args.others.now i d).seat (get_or all i d).seat c.tell_both.ensures.one (inv.told i d (omega (arith, low, apart))));
+      since = λ i d low. set_cases (λ x. BeginsWith x.seat.heard c.args.first.now.heard) all n _ i d low_here
+          (λ same. subst (λ es. BeginsWith es c.args.first.now.heard) (sym c.tell_both.ensures.same)
+          (front_of c.tell_both.new.one c.loop-other.first c.args.first.now c.tell_both.ensures.one.longer inv.first.longer))
+          (λ apart. inv.since i d (omega (arith, low, apart)));
       rest = λ i d high. set_cases (λ x. x ≡ get_or c.args.others.now i d) all n _ i d low_here
           (λ same. absurd (omega (arith, high, same)))
           (λ apart. inv.rest i d (omega (arith, high)));
