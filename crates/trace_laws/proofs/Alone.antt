@@ -50,15 +50,15 @@ use Rattle.trace_laws.specs.Laws.{RunsBeginAlone}
 use Rattle.trace_check.specs.Harts.{ends_start, names_hart}
 use Rattle.trace_read.specs.Said.{said_of}
 
-abbrev ends : Event → Bool
+abbrev pub ends : Event → Bool
 ends e = ends_start (said_of e)
 
-abbrev names : Event → Bool
+abbrev pub names : Event → Bool
 names e = names_hart (said_of e)
 
 -- ---- events of the first hart
 
-abbrev NamesNone : List Event → Type 0
+abbrev pub NamesNone : List Event → Type 0
 NamesNone events = AllByRecursion (λ e. names e ≡ false) events
 
 none_more : (front back : List Event) → NamesNone front → NamesNone back → NamesNone (front ++ back)
@@ -66,7 +66,7 @@ none_more [] back one other = other
 none_more (e ∷ front) back one other = (one.0, none_more front back one.1 other)
 
 -- the event is the first hart's
-own_names : (e : Event) → hart_of e ≡ Some 0 → names e ≡ false
+pub own_names : (e : Event) → hart_of e ≡ Some 0 → names e ≡ false
 own_names (events.Open hart ask answer) own = refl
 own_names (events.Close hart handle answer) own = refl
 own_names (events.Unmapped hart set) own = refl
@@ -102,7 +102,7 @@ settling_names (b ∷ rest) = none_more (settled_by b.resolving) (settling rest)
 
 -- ---- the first hart while it runs startup's constructors
 
-record Constructing (b : HartState) : Type 0 where
+pub record Constructing (b : HartState) : Type 0 where
   pub runs : b.«end» ≡ None
   pub frames : IsTrue (list_any is_startup_frame b.frames)
   pub no_finals : has_finals b.frames ≡ false
@@ -159,7 +159,7 @@ module _ (w : Setting) (past : List Event) (b c : HartState) (did : Did) where
       inl (ap (list_any ends) is ∙ list_any-append ends front (events.Ended 0 reason ∷ []) ∙ or_right (list_any ends front) (list_any ends (events.Ended 0 reason ∷ [])) refl)
   ends_go free on (Appends.after_finals code spares some over none) = absurd (true≢false (sym some ∙ free))
 
-  turn_constructs : has_finals c.frames ≡ false → Constructing b → LeavesFrames w past 0 b did c → Appends past 0 b did c → IsOverOr (events_of did) c
+  pub turn_constructs : has_finals c.frames ≡ false → Constructing b → LeavesFrames w past 0 b did c → Appends past 0 b did c → IsOverOr (events_of did) c
   turn_constructs free x leaves appends = ⊎_elim
       (λ (over : IsTrue (list_any ends (events_of did))). inl over)
       (λ (has : HasFrame c.frames). ⊎_elim
@@ -298,17 +298,27 @@ first_constructs : (registers : Registers) (object : ℕ) (addresses : List ℕ)
 first_constructs registers object [] rest fuel entry = record { runs = refl; frames = refl; no_finals = refl }
 first_constructs registers object (address ∷ more) rest fuel entry = record { runs = refl; frames = refl; no_finals = refl }
 
-starts_first : (w : Setting) (setup : Setup) (world : World) → Laws → IsStarted w setup world → First world
-starts_first w setup world laws x =
-    let some : IsSomeList x.started.functions = some_functions w setup world.journal x.started laws x.starts in
-    let entry : HartEntry = entry_at (after world.journal) 0 (program_entry (after world.journal)) in
-    let others : List HartEntry = entries_from (after world.journal) 1 x.starts.addresses in
+-- so startup sets the first hart off
+pub record SetOff (setup : Setup) (started : Started) : Type 0 where
+  pub hart : HartState
+  pub there : slice_get (starting_harts setup.fuel started.functions started.entries) 0 ≡ Some hart
+  pub constructs : Constructing hart
+
+pub sets_off : (w : Setting) (setup : Setup) (startup : List Event) (started : Started) → Laws → Starts w setup startup started → SetOff setup started
+sets_off w setup startup started laws x =
+    let some : IsSomeList started.functions = some_functions w setup startup started laws x in
+    let entry : HartEntry = entry_at (after startup) 0 (program_entry (after startup)) in
     record {
       hart = with_first (Purpose.of_startup (starting_registers entry)) some.0.object some.0.addresses some.1 [] (starting_hart setup.fuel entry);
-      there = ap (λ (harts : List HartState). slice_get harts 0) (x.harts ∙ ap (λ (fs : List Function). starting_harts setup.fuel fs x.started.entries) some.2
-          ∙ ap (λ (es : List HartEntry). starting_harts setup.fuel (some.0 ∷ some.1) es) x.starts.entries);
+      there = ap (λ (harts : List HartState). slice_get harts 0) (ap (λ (fs : List Function). starting_harts setup.fuel fs started.entries) some.2
+          ∙ ap (λ (es : List HartEntry). starting_harts setup.fuel (some.0 ∷ some.1) es) x.entries);
       constructs = first_constructs (starting_registers entry) some.0.object some.0.addresses some.1 setup.fuel entry;
     }
+
+starts_first : (w : Setting) (setup : Setup) (world : World) → Laws → IsStarted w setup world → First world
+starts_first w setup world laws x =
+    let y : SetOff setup x.started = sets_off w setup world.journal x.started laws x.starts in
+    record { hart = y.hart; there = ap (λ (harts : List HartState). slice_get harts 0) x.harts ∙ y.there; constructs = y.constructs }
 
 -- ---- what comes behind
 
@@ -341,7 +351,7 @@ module _ (w : Setting) (front : List Event) where
 
 -- ---- the start of a run
 
-begins_alone : (more tail : List Event) → NamesNone more → IsTrue (list_any ends more) → BeginsAlone (more ++ tail)
+pub begins_alone : (more tail : List Event) → NamesNone more → IsTrue (list_any ends more) → BeginsAlone (more ++ tail)
 begins_alone [] tail none any = absurd (true≢false (sym any))
 begins_alone (e ∷ rest) tail none any = ⊎_elim
     (λ (is : ends e ≡ true). record { before = []; over = e; behind = rest ++ tail; are = refl; ends = is; alone = All-nil (λ x. names x ≡ false) })

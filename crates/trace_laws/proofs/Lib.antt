@@ -4,3 +4,4 @@ mod Feeds
 mod Lines
 mod Named
 mod Passing
+mod Threads

@@ -1,5 +1,7 @@
 -- What holds of the texts of journals.
 use Rattle.std.specs.Prelude.{◌≡◌, ℕ, ◌+◌, List, [], ◌++◌, length, map, Some, All}
+use Rattle.hart_threads.specs.Constructed.{IsConstructed}
+use Rattle.history_calls.specs.RunJournal.{IsRunJournal}
 use Rattle.history_calls.specs.declared.link_served.startup.Setup.{Setup}
 use Rattle.history_event.specs.declared.event.Event.{Event}
 use Rattle.history_state.specs.Legal.{Legal, Whole}
@@ -46,3 +48,17 @@ abbrev pub RunsPass : Type 0
 RunsPass = (setup : Setup) (items : List TurnItem) (files : List File) (world : World) (run_end : RunEnd) → setup.preload ≡ []
     → Run (run_of setup (Some files)) setup items world → All IsWritten world.journal
     → IsJudged setup.folders (Some files) (journal_lines world.journal ++ end_line run_end) (legal (length world.journal))
+
+-- ---- runs on threads
+
+-- each begins so, too: the first hart runs startup's constructors alone
+abbrev pub ThreadsBeginAlone : Type 0
+ThreadsBeginAlone = (w : Setting) (setup : Setup) (journal alone more : List Event) (by : IsRunJournal w setup journal)
+    → IsConstructed w setup by.startup alone by.started → by.others ≡ alone ++ more → StartsAlone w setup journal
+
+-- and what is printed of one without preload names, whose journal is legal and whole, is judged legal, over its files
+abbrev pub ThreadsPass : Type 0
+ThreadsPass = (setup : Setup) (files : List File) (journal alone more : List Event) (run_end : RunEnd)
+    (by : IsRunJournal (run_of setup (Some files)) setup journal) → IsConstructed (run_of setup (Some files)) setup by.startup alone by.started
+    → by.others ≡ alone ++ more → Legal (run_of setup (Some files)) journal → Whole (run_of setup (Some files)) journal → setup.preload ≡ []
+    → All IsWritten journal → IsJudged setup.folders (Some files) (journal_lines journal ++ end_line run_end) (legal (length journal))

@@ -1,6 +1,6 @@
 //! The laws of traces that runs leave.
 
-ghost use Rattle.trace_laws.specs.Laws.{EndLinesAreLast, LegalTracesPass, RunsBeginAlone, RunsPass, StartsNameHarts};
+ghost use Rattle.trace_laws.specs.Laws.{EndLinesAreLast, LegalTracesPass, RunsBeginAlone, RunsPass, StartsNameHarts, ThreadsBeginAlone, ThreadsPass};
 
 /// Each line that a run ends with is the last of a trace.
 pub fn end_lines_are_last()
@@ -43,4 +43,24 @@ pub fn runs_pass()
     world_turns::runs_stay_sound();
     world_laws::runs_are_whole();
     history_journal::accepted_object();
+}
+
+/// In a run on threads the first hart takes all turns until startup is over, too.
+pub fn threads_begin_alone()
+    ensures { ThreadsBeginAlone }
+{
+    hart_moves::turns_are_legal();
+    hart_moves::turns_append();
+    hart_moves::turns_leave_frames();
+    history_state::nothing_comes_before_startup();
+}
+
+/// So the text of such a run is judged legal, over its files, where it had no preload names.
+pub fn threads_pass()
+    ensures { ThreadsPass }
+{
+    legal_traces_pass();
+    starts_name_harts();
+    threads_begin_alone();
+    end_lines_are_last();
 }
