@@ -1,5 +1,6 @@
 mod Comes
 mod Counted
+mod Fates
 mod Finished
 mod Journal
 mod Kept
@@ -10,5 +11,6 @@ mod Over
 mod Ways
 mod Ready
 mod Setting
+mod Slots
 mod Shown
 mod Started

@@ -1,3 +1,4 @@
 pub mod Running
 pub mod Setting
+pub mod Slots
 pub mod Threaded

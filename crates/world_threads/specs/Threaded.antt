@@ -70,7 +70,7 @@ pub record IsThreaded (w : Setting) (setup : Setup) (left : RunRecord) (trails :
   -- the keeper counted these very events, and memory is what they left: the words of each image that is there, and of no other
   pub counted : trails.events ≡ left.journal.events
   pub kept : AreKept w by.startup trails
-  -- what became of each grant is known, and what each slot that isn't lazy any more holds is the value of one that was bound
+  -- what became of each grant is known, and what was seen of a slot is the value of the one that was bound
   pub over : IsOver trails
   -- each hart has an end, which is the last one that the journal has of it
   pub last : AreLastEnds w.machine.harts (after left.journal.events).endings left.ends
