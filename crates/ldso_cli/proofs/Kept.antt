@@ -1,5 +1,5 @@
 -- What is kept of a run is a history.
-use Rattle.std.proofs.Common.{◌≡◌, ◌⊎◌, ⊎_elim, inl, inr, ℕ, List, [], Option, None, Some, Result, Err, refl, sym, ap, subst, ◌∙◌, true≢false}
+use Rattle.std.proofs.Common.{◌≡◌, ◌⊎◌, ⊎_elim, inl, inr, ℕ, List, [], take, Option, None, Some, Result, Err, refl, sym, ap, subst, ◌∙◌, true≢false}
 use Rattle.std.specs.Prelude.{IsTrue}
 use Rattle.cli_words.specs.declared.command.Command.{Command}
 use Rattle.cli_words.specs.declared.command.Command.TheVariants as commands
@@ -16,11 +16,12 @@ use Rattle.world_laws.specs.RunJournals.Laws.{RunsHaveJournals}
 use Rattle.history_event.specs.declared.hart_end.HartEnd.{HartEnd}
 use Rattle.history_state.specs.Legal.{Legal, Whole}
 use Rattle.history_state.specs.Setting.{Setting}
+use Rattle.history_state.specs.Lemmas.History.{legal_take}
 use Rattle.history_calls.specs.declared.link_served.startup.Setup.{Setup}
 use Rattle.history_calls.specs.Laws.{FailsLegal, StartsOrFails, is_read_fault}
 use Rattle.link_startup.specs.Startup.{CanStart}
 use Rattle.link_open_plan.specs.Startup.{run_of}
-use Rattle.world_laws.specs.RunMoments.Laws.{RunsAreTrue}
+use Rattle.world_laws.specs.RunMoments.Laws.{JournalsAreTrue, RunsAreTrue}
 use Rattle.trace_text.specs.RunTexts.Ends.{IsRunEnd}
 use Rattle.trace_text.specs.declared.run_texts.record.RunRecord.{RunRecord}
 use Rattle.trace_text.specs.declared.run_texts.run_end.RunEnd.{RunEnd}
@@ -29,6 +30,7 @@ use Rattle.world_turns.specs.declared.schedules.schedule.TurnItem.{TurnItem}
 use Rattle.world_turns.specs.Throughout.{RunsAreSound}
 use Rattle.word_rule.specs.declared.view.KeeperView.{KeeperView}
 use Rattle.world_laws.specs.WorldWhole.Laws.{RunsAreWhole}
+use Rattle.world_threads.specs.Slots.{RunsEndSlots}
 use Rattle.ldso_cli.proofs.Turning.{Accepts}
 use Rattle.ldso_cli.specs.Command.{CommandAnswers}
 use Rattle.ldso_cli.specs.End.{bare, told_end}
@@ -51,6 +53,8 @@ pub record RunLaws : Type 0 where
   pub journals : RunsHaveJournals
   pub follow : RunsFollow
   pub are_true : RunsAreTrue
+  pub moments : JournalsAreTrue
+  pub slots : RunsEndSlots
   pub starts : StartsOrFails
 
 -- ---- why one starts
@@ -156,7 +160,13 @@ module _ (laws : RunLaws) (setup : Setup) (before after : LibraryAt) (ended : Re
 
   threads_ran : IsNotRun setup before.files ended left ⊎ Runs → (left.ends ≡ [] → ⊥) → HasRunOnThreads setup before.files left trails
   threads_ran (inl p) some = absurd (some p.leaves.no_ends)
-  threads_ran (inr p) some = record { told = p.told; trails_are = p.trails_are; is = p.is }
+  threads_ran (inr p) some = record {
+    told = p.told;
+    trails_are = p.trails_are;
+    is = p.is;
+    slots = laws.slots w setup left p.told p.is;
+    moments = λ k. laws.moments w (take k left.journal.events) (laws.accepts w.machine refl) (legal_take w left.journal.events k p.is.legal);
+  }
 
   threads_refused : IsNotRun setup before.files ended left ⊎ Runs → left.ends ≡ [] → (fault : DlFault) × FailsToStart w setup fault left.journal.events
   threads_refused (inl p) none = (p.fault, subst (FailsToStart w setup p.fault) (sym p.leaves.journal) p.fails)

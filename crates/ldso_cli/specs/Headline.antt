@@ -1,6 +1,6 @@
 -- The headline: for all files, programs and interleavings of the harts' turns, or of their steps on threads, the journal that is kept of a run is
 -- one legal history.
-use Rattle.std.specs.Prelude.{◌≡◌, ◌≢◌, ℕ, List, [], Option, Some, None}
+use Rattle.std.specs.Prelude.{◌≡◌, ◌≢◌, ℕ, List, [], take, Option, Some, None}
 use Rattle.cli_words.specs.declared.command.Command.{Command}
 use Rattle.cli_words.specs.declared.command.Command.TheVariants as commands
 use Rattle.cli_words.specs.declared.command.Turns.{Turns}
@@ -18,10 +18,12 @@ use Rattle.link_startup.specs.Startup.{CanStart}
 use Rattle.plain_world.specs.Ends.{AreEndsOf}
 use Rattle.trace_text.specs.declared.run_texts.record.RunRecord.{RunRecord}
 use Rattle.world_laws.specs.RunMoments.Laws.{IsTrueThroughout}
+use Rattle.world_laws.specs.RunMoments.OfJournal.{JournalIsTrue}
 use Rattle.world_turns.specs.declared.schedules.schedule.TurnItem.{TurnItem}
 use Rattle.world_turns.specs.Run.{Run}
 use Rattle.world_turns.specs.World.{World}
 use Rattle.word_rule.specs.declared.view.KeeperView.{KeeperView}
+use Rattle.world_threads.specs.Slots.{SlotsEnd}
 use Rattle.world_threads.specs.Threaded.{IsThreaded}
 use Rattle.ldso_cli.specs.Generate.{set_at, set_setup}
 use Rattle.ldso_cli.specs.Outside.{LibraryAt}
@@ -51,6 +53,10 @@ pub record HasRunOnThreads (setup : Setup) (files : Option (List File)) (left : 
   -- the journal is a whole legal history; each hart follows from its start to its end, by the table of turns; none of its events is left out; and its
   -- trail says what the journal says
   pub is : IsThreaded (run_of setup files) setup left told
+  -- each slot of an object that is mapped has one value at the end, which each exchange of it put there or found
+  pub slots : SlotsEnd left.journal.events told.joined
+  -- behind each of its events the choices, the blocks of thread-local storage and the closings are what they should be
+  pub moments : (k : ℕ) → JournalIsTrue (run_of setup files) (take k left.journal.events)
 
 -- what is kept of the run of a program, over the files as the library tells them; `Ran` is what it is where the program ran
 pub record IsHistoryOf (Ran : Type 0) (setup : Setup) (before after : LibraryAt) (left : RunRecord) : Type 0 where

@@ -20,8 +20,10 @@ use scope_rule::one_outcome;
 use trace_check::one_verdict;
 use trace_text::one_run_end;
 use world_laws::{
-    harts_follow, moments_are_true, runs_are_one, runs_are_whole, runs_have_journals,
+    harts_follow, journals_are_true, moments_are_true, runs_are_one, runs_are_whole,
+    runs_have_journals,
 };
+use world_threads::slots_end;
 use world_turns::runs_stay_sound;
 
 /// The words and the files decide what a call of the command comes to, where the library tells its
@@ -74,8 +76,9 @@ pub fn one_judgement()
 }
 
 /// What an answer keeps of a run is one legal history, over the files as its library tells them. Where the
-/// program ran it is whole, and at each moment of the run slots, blocks of thread-local storage and closings
-/// are what they should be; and a program that may start over files that are told runs, where no read fails.
+/// program ran it is whole, and at each moment of the run choices, blocks of thread-local storage and closings
+/// are what they should be; so are slots, at each moment on one thread, and at the end on threads. A program
+/// that may start over files that are told runs, where no read fails.
 pub(crate) fn answers_are_histories()
     ensures { AnswersAreHistories }
 {
@@ -86,6 +89,8 @@ pub(crate) fn answers_are_histories()
     harts_follow();
     runs_are_whole();
     moments_are_true();
+    journals_are_true();
+    slots_end();
     one_startup();
 }
 

@@ -10,5 +10,7 @@ returns c = histories (record {
   journals = c.runs_have_journals.ensures;
   follow = c.harts_follow.ensures;
   are_true = c.moments_are_true.ensures;
+  moments = c.journals_are_true.ensures;
+  slots = c.slots_end.ensures;
   starts = c.one_startup.ensures.one;
 })
