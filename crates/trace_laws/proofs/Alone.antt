@@ -10,7 +10,7 @@ use Rattle.std.proofs.lemmas.Option.{none-some}
 use Rattle.ld_base.specs.declared.linking.Loaded.{Loaded}
 use Rattle.history_calls.specs.Functions.{left, object_of, passed, preceded}
 use Rattle.history_calls.specs.Laws.{hart_of}
-use Rattle.history_calls.specs.Startup.{Starts, entries_from, entry_at, opening, program_ask, program_entry}
+use Rattle.history_calls.specs.Startup.{Starts, entry_at, opening, program_ask, program_entry}
 use Rattle.history_calls.specs.declared.link_served.startup.Setup.{Setup}
 use Rattle.history_calls.specs.declared.link_served.startup.Started.{Started}
 use Rattle.history_event.specs.declared.event.Event.{Event}

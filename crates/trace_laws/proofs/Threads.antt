@@ -1,8 +1,7 @@
 -- The first hart of a run on threads is alone until its start is over.
-use Rattle.std.proofs.Common.{◌≡◌, ◌⊎◌, inl, inr, ⊎_elim, ℕ, zero, suc, ◌+◌, ◌≤◌, ◌<◌, Bool, true, false, ◌||◌, List, [], ◌∷◌, ◌++◌, length, length-append, take, drop, Option, Some, None, IsTrue, true≢false, refl, sym, ap, subst, ◌∙◌, append_assoc, arith}
+use Rattle.std.proofs.Common.{◌≡◌, ◌⊎◌, inl, inr, ⊎_elim, ℕ, zero, suc, ◌+◌, ◌≤◌, ◌<◌, true, false, List, [], ◌∷◌, ◌++◌, length, take, drop, Option, Some, None, IsTrue, true≢false, refl, sym, ap, subst, ◌∙◌, arith}
 use Rattle.std.specs.List.{Contains, list_any, slice_get}
 use Rattle.std.specs.Option.{IsSome}
-use Rattle.std.proofs.lemmas.Bool.{or_left, or_right}
 use Rattle.std.proofs.lemmas.Option.{none-some, slice_get_within}
 use Rattle.history_event.specs.declared.event.Event.{Event}
 use Rattle.history_event.specs.declared.event.Event.TheVariants as events
@@ -10,7 +9,6 @@ use Rattle.history_event.specs.declared.hart_end.HartEnd.{HartEnd}
 use Rattle.history_calls.specs.Laws.{hart_of}
 use Rattle.history_calls.specs.RunJournal.{IsRunJournal}
 use Rattle.history_calls.specs.declared.link_served.startup.Setup.{Setup}
-use Rattle.history_calls.specs.declared.link_served.startup.Started.{Started}
 use Rattle.history_state.specs.Lemmas.Lists.{any_in, here, in_any, later}
 use Rattle.history_state.specs.Lemmas.Tidy.{in_at}
 use Rattle.history_state.specs.Setting.{Setting}

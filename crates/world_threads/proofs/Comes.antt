@@ -1,9 +1,9 @@
 -- What a run comes to that has started, beside what its library counted.
-use Rattle.std.proofs.Common.{◌≡◌, ℕ, ◌≤◌, List, [], ◌++◌, drop, length, Option, Some, None, Result, Ok, Err, IfOk, IfErr, refl, sym, ap, subst, ◌∙◌, arith}
+use Rattle.std.proofs.Common.{◌≡◌, ℕ, ◌≤◌, List, [], ◌++◌, drop, length, Option, Result, Ok, Err, IfOk, IfErr, refl, sym, ap, subst, ◌∙◌, arith}
 use Rattle.std.proofs.Math.Seq.{drop-append_seam}
 use Rattle.ld_base.specs.declared.linking.File.{File}
 use Rattle.history_event.specs.declared.event.Event.{Event}
-use Rattle.history_calls.specs.CallLaws.Counts.{ArePathsAtStart, ShowsInCounts}
+use Rattle.history_calls.specs.CallLaws.Counts.{ShowsInCounts}
 use Rattle.history_calls.specs.declared.link_served.startup.Setup.{Setup}
 use Rattle.history_calls.specs.declared.link_served.startup.StartFault.{StartFault}
 use Rattle.history_calls.specs.declared.link_served.startup.StartFault.TheVariants as starts

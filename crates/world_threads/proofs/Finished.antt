@@ -1,7 +1,7 @@
 -- Once the first hart's way has come to its end, what was initialised is finalised, where every hart ended once, by exit.
-use Rattle.std.proofs.Common.{◌≡◌, ◌≢◌, ◌⊎◌, ⊎_elim, inl, inr, ℕ, zero, suc, ◌+◌, ◌≤◌, ◌<◌, true, false, List, [], ◌∷◌, ◌++◌, length, take, drop, Some, None, refl, sym, ap, subst, ◌∙◌, append_assoc, append-nil, length-append, arith}
+use Rattle.std.proofs.Common.{◌≡◌, ◌⊎◌, inl, inr, ℕ, zero, suc, ◌+◌, ◌≤◌, ◌<◌, List, [], ◌∷◌, ◌++◌, length, take, drop, Some, None, refl, sym, ap, subst, ◌∙◌, append_assoc, append-nil, length-append, arith}
 use Rattle.std.specs.Prelude.{IsTrue}
-use Rattle.std.specs.List.{Contains, list_all, slice_get}
+use Rattle.std.specs.List.{Contains, slice_get}
 use Rattle.std.proofs.lemmas.Bool.{and_parts, eqb-true, true≢false}
 use Rattle.std.proofs.lemmas.List.{length-take-le, take-append-drop, take-take}
 use Rattle.history_event.specs.declared.event.Event.{Event}
@@ -12,13 +12,13 @@ use Rattle.history_event.specs.declared.hart_end.HartEnd.TheVariants.{Memory}
 use Rattle.history_event.specs.declared.state.Ending.{Ending}
 use Rattle.history_state.specs.After.{after}
 use Rattle.history_state.specs.Lemmas.History.{after_push, one_behind}
-use Rattle.history_state.specs.Lemmas.Lists.{at_in, here, later}
+use Rattle.history_state.specs.Lemmas.Lists.{here, later}
 use Rattle.history_state.specs.Setting.{Setting, are_finals, have_exited}
 use Rattle.history_state.specs.State.{State}
 use Rattle.history_state.specs.Step.{step}
 use Rattle.history_calls.specs.Laws.{hart_of}
 use Rattle.history_calls.specs.Lemmas.Ends.{step_ends, told_by}
-use Rattle.hart_moves.specs.Follows.{BeginsFinals, EndsBehind, Follows, FollowsToItsEnd, HasNone, LacksList, Turned}
+use Rattle.hart_moves.specs.Follows.{EndsBehind, Follows, FollowsToItsEnd, HasNone, LacksList, Turned}
 use Rattle.hart_moves.specs.Harts.{HartState}
 use Rattle.hart_moves.specs.Laws.{EndedStays}
 use Rattle.hart_moves.specs.Moves.{all_finis, events_of}

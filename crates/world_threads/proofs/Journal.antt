@@ -1,7 +1,7 @@
 -- Each event of a run behind startup's is that of a hart that runs: each hart's way says so of its own.
-use Rattle.std.proofs.Common.{◌≡◌, ◌≢◌, ◌⊎◌, ⊎_elim, inl, inr, ℕ, zero, suc, ◌+◌, ◌-◌, ◌≤◌, ◌<◌, Bool, true, false, ◌==◌, ◌&&◌, List, [], ◌∷◌, ◌++◌, length, map, take, drop, Option, Some, None, refl, sym, ap, subst, ◌∙◌, append_assoc, append-nil, length-append, lt_of_not-le, arith}
+use Rattle.std.proofs.Common.{◌≡◌, ⊎_elim, inl, inr, ℕ, zero, suc, ◌+◌, ◌-◌, ◌≤◌, ◌<◌, Bool, true, false, ◌==◌, ◌&&◌, List, [], ◌∷◌, ◌++◌, length, map, take, drop, Option, Some, None, refl, sym, ap, subst, ◌∙◌, append_assoc, append-nil, length-append, lt_of_not-le, arith}
 use mathlib.Core.Logic.{dite}
-use native.Mathlib.Decide.{ℕ_discrete, dec_le}
+use native.Mathlib.Decide.{dec_le}
 use Rattle.std.specs.Prelude.{IsTrue, nat_le}
 use Rattle.std.specs.List.{Contains, list_all, slice_get}
 use Rattle.std.proofs.lemmas.Bool.{and_parts, eq-eqb, false≢true, le-leb}
@@ -11,13 +11,12 @@ use Rattle.std.proofs.lemmas.Option.{none-some, slice_get_within}
 use Rattle.history_event.specs.declared.event.Event.{Event}
 use Rattle.history_event.specs.declared.event.Event.TheVariants as events
 use Rattle.history_event.specs.declared.hart_end.HartEnd.{HartEnd}
-use Rattle.history_event.specs.declared.hart_end.HartEnd.TheVariants.{Memory}
 use Rattle.history_event.specs.declared.state.Ending.{Ending}
 use Rattle.history_state.specs.After.{after, after_from}
 use Rattle.history_state.specs.Allowed.{MayEnd}
 use Rattle.history_state.specs.Legal.{Legal}
 use Rattle.history_state.specs.Lemmas.History.{after_push, after_take, lawful_take, legal_is_lawful, one_behind, take_next}
-use Rattle.history_state.specs.Lemmas.Lists.{at_in, has_in, here, later, none_in, only_in}
+use Rattle.history_state.specs.Lemmas.Lists.{at_in, has_in, later, none_in, only_in}
 use Rattle.history_state.specs.Objects.{has}
 use Rattle.history_state.specs.Setting.{Setting, are_finals, exited, have_exited}
 use Rattle.history_state.specs.State.{State}
@@ -83,9 +82,11 @@ push_ends past e = ap (λ (s : State). s.endings) (after_push past e) ∙ step_e
 grown : (past more : List Event) → (later : List Ending) × ((after (past ++ more)).endings ≡ (after past).endings ++ later)
 grown past [] = ([], ap (λ (es : List Event). (after es).endings) (append-nil past) ∙ sym (append-nil (after past).endings))
 grown past (e ∷ rest) =
-    let behind = grown (past ++ e ∷ []) rest in
-    (told_by e ++ behind.0, ap (λ (es : List Event). (after es).endings) (sym (one_behind past e rest)) ∙ behind.1
-    ∙ ap (λ (es : List Ending). es ++ behind.0) (push_ends past e) ∙ append_assoc (after past).endings (told_by e) behind.0)
+    let behind = grown (past ++ e ∷ []) rest in (
+      told_by e ++ behind.0,
+      ap (λ (es : List Event). (after es).endings) (sym (one_behind past e rest)) ∙ behind.1
+          ∙ ap (λ (es : List Ending). es ++ behind.0) (push_ends past e) ∙ append_assoc (after past).endings (told_by e) behind.0,
+    )
 
 grown_at : (journal : List Event) (n m : ℕ) → n ≤ m → (later : List Ending) × (ends_at journal m ≡ ends_at journal n ++ later)
 grown_at journal n m low =
@@ -321,11 +322,14 @@ module _ (running : RunningIsNotOver) (w : Setting) (journal : List Event) (lega
   Still k = (at ≤ k) × (ends_at journal k ≡ ends_at journal at)
 
   still_on : (k : ℕ) → at ≤ k → ((reason : HartEnd) → slice_get journal k ≡ Some (events.Ended 0 reason) → ⊥) → Still k → Still (suc k)
-  still_on k low none still = (omega (arith, low), ⊎_elim
-      (λ (next : (e : Event) × (slice_get journal k ≡ Some e)). by next.0 next.1 (tells next.0)
-      (ap (λ (s : State). s.endings) (after_take journal k next.0 next.1) ∙ step_ends (after (take k journal)) next.0))
-      (λ (same : take (suc k) journal ≡ take k journal). ap (λ (es : List Event). (after es).endings) same ∙ still.1)
-      (take_next journal k))
+  still_on k low none still = (
+    omega (arith, low),
+    ⊎_elim
+        (λ (next : (e : Event) × (slice_get journal k ≡ Some e)). by next.0 next.1 (tells next.0)
+        (ap (λ (s : State). s.endings) (after_take journal k next.0 next.1) ∙ step_ends (after (take k journal)) next.0))
+        (λ (same : take (suc k) journal ≡ take k journal). ap (λ (es : List Event). (after es).endings) same ∙ still.1)
+        (take_next journal k),
+  )
     where
       by : (e : Event) → slice_get journal k ≡ Some e → Tells e → ends_at journal (suc k) ≡ ends_at journal k ++ told_by e → ends_at journal (suc k) ≡ ends_at journal at
       by e there (Tells.tells_none is) now = now ∙ ap (λ (es : List Ending). ends_at journal k ++ es) is ∙ append-nil (ends_at journal k) ∙ still.1
@@ -433,6 +437,8 @@ pub are_by_harts : (w : Setting) (past more journal : List Event) → journal �
 are_by_harts w past more journal are own each = all_by w past more (λ front e rest more_are h is.
     let whole : journal ≡ (past ++ front) ++ e ∷ rest = are ∙ ap (λ (es : List Event). past ++ es) more_are ∙ sym (append_assoc past front (e ∷ rest)) in
     let there : slice_get journal (length (past ++ front)) ≡ Some e = ap (λ (es : List Event). slice_get es (length (past ++ front))) whole ∙ got_front (past ++ front) e rest in
-    let less : h < w.machine.harts = own e h (at_in journal (length (past ++ front)) e there) is in
-    (less, subst (λ (es : List Event). MayEnd w (after es) h) (ap (take (length (past ++ front))) whole ∙ take_front (past ++ front) e rest)
-    (each h (length (past ++ front)) e less (let long = length-append past front in omega (arith, long)) there is)))
+    let less : h < w.machine.harts = own e h (at_in journal (length (past ++ front)) e there) is in (
+      less,
+      subst (λ (es : List Event). MayEnd w (after es) h) (ap (take (length (past ++ front))) whole ∙ take_front (past ++ front) e rest)
+          (each h (length (past ++ front)) e less (let long = length-append past front in omega (arith, long)) there is),
+    ))

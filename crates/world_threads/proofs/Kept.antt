@@ -1,5 +1,5 @@
 -- What the keeper keeps where a run has started: it may go behind its lock.
-use Rattle.std.proofs.Common.{◌≡◌, ◌≤◌, ◌<◌, ℕ, List, [], ◌∷◌, ◌++◌, append_assoc, drop, length, Option, None, Some, refl, sym, ap, subst, ◌∙◌, arith}
+use Rattle.std.proofs.Common.{◌≡◌, ◌≤◌, ◌<◌, ℕ, List, ◌∷◌, ◌++◌, append_assoc, drop, length, Option, sym, ap, subst, ◌∙◌, arith}
 use Rattle.std.specs.Prelude.{IsTrue}
 use Rattle.std.proofs.lemmas.List.{drop_all}
 use Rattle.std.proofs.lemmas.Option.{none-some}
@@ -12,9 +12,8 @@ use Rattle.history_calls.specs.Startup.{Starts, harts_of}
 use Rattle.history_journal.specs.Following.{machine_of}
 use Rattle.history_state.specs.After.{after}
 use Rattle.history_state.specs.Setting.{Setting, have_exited}
-use Rattle.link_keeper.specs.Keeping.{AreOpen, FirstGoesOn, IsKept, KeepsState, KeepsView, WasOver}
+use Rattle.link_keeper.specs.Keeping.{FirstGoesOn, IsKept}
 use Rattle.link_state.specs.Table.{LinkTable}
-use Rattle.word_rule.specs.declared.entry.Grant.{Grant}
 use Rattle.word_rule.specs.declared.view.KeeperView.{KeeperView}
 use Rattle.word_rule.specs.declared.view.Row.{Row}
 use Rattle.world_threads.specs.Setting.{HasStarted}

@@ -1,13 +1,13 @@
 -- The end that counts for a hart is the last one that the journal has of it.
-use Rattle.std.proofs.Common.{◌≡◌, ⊎_elim, ℕ, zero, suc, ◌+◌, ◌-◌, ◌<◌, ◌≤◌, ◌==◌, cond, if◌then◌else◌, eq-eqb, ne_eqb, Bool, true, false, List, [], ◌∷◌, ◌++◌, filter, length, length-append, map, Some, None, refl, sym, ap, subst, ◌∙◌, append-nil, append_assoc, arith}
-use Rattle.std.specs.List.{Contains, slice_get}
+use Rattle.std.proofs.Common.{◌≡◌, ℕ, zero, suc, ◌+◌, ◌-◌, ◌<◌, cond, eq-eqb, ne_eqb, Bool, true, false, List, [], ◌∷◌, ◌++◌, filter, length, length-append, map, Some, refl, sym, ap, ◌∙◌, append-nil, arith}
+use Rattle.std.specs.List.{slice_get}
 use Rattle.std.proofs.lemmas.Option.{none-some}
 use Rattle.history_event.specs.declared.event.Event.{Event}
 use Rattle.history_event.specs.declared.event.Event.TheVariants as events
 use Rattle.history_event.specs.declared.hart_end.HartEnd.{HartEnd}
 use Rattle.history_event.specs.declared.state.Ending.{Ending}
 use Rattle.history_calls.specs.Lemmas.Ends.{step_ends, told_by}
-use Rattle.history_state.specs.After.{after, after_from}
+use Rattle.history_state.specs.After.{after}
 use Rattle.history_state.specs.Lemmas.History.{after_push, one_behind}
 use Rattle.history_state.specs.Owed.{is_end_of}
 use Rattle.history_state.specs.State.{State}

@@ -1,5 +1,5 @@
 -- A name's run is the run that it names.
-use Rattle.std.proofs.Common.{◌≡◌, ℕ, List, drop, length, Some, Ok, sym, subst}
+use Rattle.std.proofs.Common.{◌≡◌, List, drop, length, Some, Ok, sym, subst}
 use Rattle.std.specs.List.{slice_get}
 use Rattle.history_event.specs.declared.event.Event.{Event}
 use Rattle.history_event.specs.declared.handed.HartEntry.{HartEntry}

@@ -1,6 +1,5 @@
 -- A run is over: what its harts' ways and the keeper's last word come to.
-use Rattle.std.proofs.Common.{◌≡◌, ◌≢◌, ◌⊎◌, ⊎_elim, inl, inr, ℕ, zero, suc, ◌+◌, ◌≤◌, ◌<◌, ◌&&◌, drop, take, List, [], ◌∷◌, ◌++◌, length, length-append, lt_of_not-le, map, Option, Some, None, refl, sym, ap, subst, ◌∙◌, append_assoc, arith}
-use Rattle.std.specs.Prelude.{IsTrue}
+use Rattle.std.proofs.Common.{◌≡◌, ◌⊎◌, ⊎_elim, inl, inr, ℕ, zero, suc, ◌+◌, ◌≤◌, ◌<◌, ◌&&◌, drop, take, List, [], ◌∷◌, ◌++◌, length, length-append, lt_of_not-le, map, Option, Some, None, refl, sym, ap, subst, ◌∙◌, append_assoc, arith}
 use mathlib.Core.Logic.{dite}
 use native.Mathlib.Decide.{dec_le}
 use Rattle.std.proofs.Math.Seq.{drop-append_seam, take-append_seam}
@@ -22,26 +21,23 @@ use Rattle.history_state.specs.After.{after}
 use Rattle.history_state.specs.Allowed.{MayEnd}
 use Rattle.history_state.specs.Lemmas.Lists.{at_in, first_or_later, here, later, none_in}
 use Rattle.history_state.specs.Legal.{Legal, Whole}
-use Rattle.history_state.specs.Setting.{Setting, exited, have_exited}
+use Rattle.history_state.specs.Setting.{Setting, exited}
 use Rattle.hart_fits.specs.Over.{RunningIsNotOver, RunsYet}
-use Rattle.hart_moves.specs.Follows.{AreOthers, FollowsToItsEnd, HasNone}
+use Rattle.hart_moves.specs.Follows.{AreOthers, HasNone}
 use Rattle.hart_moves.specs.Laws.{EndedStays}
-use Rattle.hart_moves.specs.Moves.{all_finis}
-use Rattle.hart_moves.specs.Starting.{HartStart, IsStartOf}
+use Rattle.hart_moves.specs.Starting.{HartStart}
 use Rattle.hart_moves.specs.TurnEvents.Laws.{TurnsAppend}
 use Rattle.hart_threads.specs.Constructed.{GoesOn}
 use Rattle.hart_threads.specs.Laws.{WaysStay}
 use Rattle.hart_trails.specs.Ends.{EndIsLast, StartIsFresh}
 use Rattle.hart_trails.specs.Laws.{EndsFollow, MarksFollow}
-use Rattle.hart_trails.specs.Owners.{AreOfHarts}
 use Rattle.hart_trails.specs.Trails.{LeavesToItsEnd}
-use Rattle.kept_words.specs.Kept.{AreKept, IsFateEvent}
+use Rattle.kept_words.specs.Kept.{AreKept}
 use Rattle.kept_words.specs.Over.{IsFinished, IsOver}
 use Rattle.link_keeper.specs.Finishing.{IsExchangeOf, RunIsOver, TrailIsClosed, knows}
-use Rattle.link_keeper.specs.Keeping.{FirstGoesOn, WasOver}
-use Rattle.trace_text.specs.RunTexts.Ends.{AreLastEnds, last_end}
+use Rattle.link_keeper.specs.Keeping.{FirstGoesOn}
+use Rattle.trace_text.specs.RunTexts.Ends.{last_end}
 use Rattle.trace_text.specs.declared.run_texts.record.RunRecord.{RunRecord}
-use Rattle.word_rule.specs.declared.view.Fate.{Fate}
 use Rattle.word_rule.specs.declared.view.HartView.{HartView}
 use Rattle.word_rule.specs.declared.view.TrailItem.{TrailItem}
 use Rattle.word_rule.specs.declared.view.KeeperView.{KeeperView}
@@ -268,8 +264,11 @@ module _ (laws : Laws) (w : Setting) (setup : Setup) (past : List Event) (starte
       (begun.0 ++ longer.0, longer.1 ∙ ap (λ (es : List Event). es ++ longer.0) begun.1 ∙ append_assoc (past ++ x.run.alone) begun.0 longer.0)
 
   behind_alone : (rest : List Event) × (x.over.begins.0 ≡ x.run.alone ++ rest)
-  behind_alone = (begins_alone.0, sym (drop-append_seam past x.over.begins.0) ∙ ap (drop (length past)) (sym x.over.begins.1 ∙ begins_alone.1 ∙ append_assoc past x.run.alone begins_alone.0)
-      ∙ drop-append_seam past (x.run.alone ++ begins_alone.0))
+  behind_alone = (
+    begins_alone.0,
+    sym (drop-append_seam past x.over.begins.0) ∙ ap (drop (length past)) (sym x.over.begins.1 ∙ begins_alone.1 ∙ append_assoc past x.run.alone begins_alone.0)
+        ∙ drop-append_seam past (x.run.alone ++ begins_alone.0),
+  )
 
   -- an event of another hart stands behind them
   late : (h k : ℕ) (e : Event) → length past ≤ k → slice_get journal k ≡ Some e → hart_of e ≡ Some h → length (set_off_behind past x.run.alone h) ≤ k

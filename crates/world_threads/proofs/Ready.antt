@@ -1,5 +1,5 @@
 -- Each hart may be run as startup sets it off.
-use Rattle.std.proofs.Common.{◌≡◌, ◌⊎◌, inl, inr, ℕ, zero, suc, ◌+◌, ◌≤◌, ◌<◌, false, List, [], ◌∷◌, ◌++◌, length, map, take, Some, None, refl, sym, ap, subst, ◌∙◌, append-nil, arith}
+use Rattle.std.proofs.Common.{◌≡◌, inr, ℕ, zero, suc, ◌≤◌, ◌<◌, false, List, [], ◌∷◌, length, map, Some, None, refl, sym, ap, subst, ◌∙◌, append-nil, arith}
 use Rattle.std.specs.List.{Contains, slice_get}
 use Rattle.std.proofs.lemmas.List.{take_all}
 use Rattle.std.proofs.lemmas.Option.{none-some}
@@ -14,21 +14,18 @@ use Rattle.history_calls.specs.Startup.{Starts}
 use Rattle.history_state.specs.After.{after}
 use Rattle.history_state.specs.Lemmas.Lists.{none_in}
 use Rattle.history_state.specs.Setting.{Setting}
-use Rattle.hart_moves.specs.Follows.{HasNone}
 use Rattle.hart_moves.specs.Harts.{HartState, Purpose, Resolving}
 use Rattle.hart_moves.specs.Moves.{runs, with_first}
 use Rattle.hart_moves.specs.Starting.{HartStart, IsStartOf, starting_hart, starting_harts, starting_registers}
 use Rattle.hart_moves.specs.TurnEvents.Appends.{has_finals}
 use Rattle.hart_fits.specs.Fits.{StartFits}
 use Rattle.hart_fits.specs.Owners.{StartHasOwners}
-use Rattle.hart_linker.specs.Between.{HasHeard, IsAtRow, IsBetweenTurns}
+use Rattle.hart_linker.specs.Between.{HasHeard, IsAtRow}
 use Rattle.hart_threads.specs.Ends.{IsNewAt}
 use Rattle.hart_threads.specs.Run.{IsReady}
 use Rattle.hart_threads.specs.Turns.{RunsBy}
 use Rattle.hart_trails.specs.Trails.{FollowsBy}
 use Rattle.tls_blocks.specs.Blocks.{BlockTable, block_at}
-use Rattle.word_rule.specs.declared.entry.Entry.{Entry}
-use Rattle.word_rule.specs.declared.view.HartView.{HartView}
 use Rattle.world_threads.specs.Setting.{KeepsNone, told_hart}
 use Rattle.world_threads.proofs.Started.{none_ended}
 

@@ -1,5 +1,5 @@
 -- What a run's counts show.
-use Rattle.std.proofs.Common.{◌≡◌, ◌||◌, ℕ, ◌+◌, ◌≤◌, Bool, false, List, [], ◌∷◌, ◌++◌, drop, length, length-append, take, Some, None, refl, sym, ap, subst, ◌∙◌, append-nil, arith}
+use Rattle.std.proofs.Common.{◌≡◌, ◌||◌, ℕ, ◌+◌, ◌≤◌, false, List, [], ◌∷◌, ◌++◌, drop, length, length-append, take, Some, None, refl, sym, ap, subst, ◌∙◌, append-nil, arith}
 use Rattle.std.proofs.lemmas.List.{drop-append-le, drop_all, take_all}
 use Rattle.std.specs.List.{Contains, list_any}
 use Rattle.history_event.specs.declared.event.Event.{Event}

@@ -2,7 +2,6 @@ use Rattle.std.proofs.Common.{sym, ap, subst, ◌∙◌}
 use Rattle.history_event.specs.declared.journal.Journal.{Journal}
 use Rattle.kept_words.specs.Kept.{AreKept}
 use Rattle.kept_words.specs.Over.{IsOver}
-use Rattle.trace_text.specs.declared.run_texts.record.RunRecord.{RunRecord}
 use Rattle.word_rule.specs.declared.view.KeeperView.{KeeperView}
 use Rattle.world_threads.proofs.Over.{threaded}
 use Rattle.world_threads.proofs.run.left_by.Goals as goal

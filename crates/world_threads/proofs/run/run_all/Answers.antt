@@ -1,5 +1,4 @@
-use Rattle.std.proofs.Common.{◌<◌, ℕ, length, ap, arith}
-use Rattle.history_calls.specs.Startup.{harts_of}
+use Rattle.std.proofs.Common.{arith}
 use Rattle.world_threads.proofs.Started.{machine_harts}
 use Rattle.world_threads.proofs.Ways.{all_ready, at_start, count, have_run, heard_are, numbers_are, others_ended, unrun_are}
 use Rattle.world_threads.proofs.run.run_all.Goals as goal

@@ -1,13 +1,8 @@
-use Rattle.std.proofs.Common.{◌≡◌, ◌≤◌, ℕ, List, ap, length, map, subst, sym, ◌∙◌}
-use Rattle.std.specs.Vec.{vec_capacity}
-use Rattle.history_event.specs.declared.event.Event.{Event}
-use Rattle.history_calls.specs.Startup.{Starts}
-use Rattle.history_journal.specs.Following.{machine_of}
+use Rattle.std.proofs.Common.{ap, map}
 use Rattle.history_state.specs.Setting.{Setting}
 use Rattle.link_open_plan.specs.Startup.{run_of}
 use Rattle.world_answers.specs.GuestsPart.Counting.{counts_at}
-use Rattle.world_threads.specs.Setting.{HasStarted}
-use Rattle.world_threads.proofs.Named.{comes, set_off, starts_named}
+use Rattle.world_threads.proofs.Named.{comes, set_off}
 use Rattle.world_threads.proofs.run.run_named.Goals as goal
 
 pub set_up-requires-clause-accepts : goal.set_up-requires-clause-accepts

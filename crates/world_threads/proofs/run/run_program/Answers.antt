@@ -1,4 +1,4 @@
-use Rattle.std.proofs.Common.{◌≡◌, ◌≤◌, ℕ, Result, refl, subst, sym, arith}
+use Rattle.std.proofs.Common.{◌≤◌, refl, subst, sym, arith}
 use Rattle.history_calls.specs.CallLaws.Counts.{ArePathsAtStart, ShowsInCounts}
 use Rattle.history_calls.specs.Startup.{Starts}
 use Rattle.history_calls.specs.declared.link_served.startup.Started.{Started}

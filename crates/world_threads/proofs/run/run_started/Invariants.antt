@@ -1,4 +1,3 @@
-use Rattle.history_state.specs.Setting.{Setting}
 use Rattle.link_open_plan.specs.Startup.{run_of}
 use Rattle.world_answers.specs.GuestsPart.Counting.{counts_at}
 use Rattle.world_threads.proofs.run.run_started.Given as goal

@@ -1,11 +1,10 @@
-use Rattle.std.proofs.Common.{◌≡◌, ◌<◌, ◌++◌, [], ◌∷◌, Some, length, take, map, sym, ap, subst, ◌∙◌, arith}
+use Rattle.std.proofs.Common.{◌<◌, ◌++◌, [], ◌∷◌, Some, length, take, map, sym, ap, subst, ◌∙◌, arith}
 use Rattle.std.specs.List.{Contains, slice_get}
 use Rattle.std.proofs.lemmas.Iterator.Adapters.{YieldsList-from_vec}
 use Rattle.std.proofs.lemmas.Iterator.Consumers.{YieldsList-end, YieldsList-turn}
 use Rattle.std.proofs.lemmas.List.{length_push, map-id}
 use Rattle.std.proofs.lemmas.Option.{slice_get-get_or}
 use Rattle.hart_moves.specs.Starting.{starting_hart}
-use Rattle.word_memory.specs.WordSeats.Making.{new_harts}
 use Rattle.word_rule.specs.declared.view.KeeperView.{KeeperView}
 use Rattle.world_threads.specs.Setting.{KeepsNone, hears}
 use Rattle.world_threads.proofs.Ways.{new_length}
