@@ -12,6 +12,7 @@ use Rattle.ld_base.specs.declared.linking.Role.TheVariants.{None as NoRole, Ro, 
 use Rattle.ld_base.specs.declared.object.Object.{Object}
 use Rattle.ld_base.specs.declared.object.Reloc.{Reloc}
 use Rattle.ld_base.specs.declared.object.Segment.{Segment}
+use Rattle.history_event.specs.declared.event.Event.{Event}
 use Rattle.history_event.specs.declared.state.Granting.{Granting}
 use Rattle.history_event.specs.declared.state.Standing.TheVariants.{Bound, Lost, Open}
 use Rattle.relocator.specs.Relocated.{moved_word}
@@ -20,9 +21,11 @@ use Rattle.seg_image.specs.Pages.{end_of, has_page, low_of, own_address, pages_o
 use Rattle.seg_image.specs.Roles.{role_in, role_of}
 use Rattle.seg_image.specs.Words.{file_word}
 use Rattle.history_state.specs.Addresses.{is_linkers_page, is_rx}
-use Rattle.history_state.specs.Laws.{EntersBy, ImagesAreMapped, IsCodeOf, IsIn, LoadsEnterCode, SlotsBegin, SlotsEnterCode, SlotsLeadToRx, slot_address}
+use Rattle.history_state.specs.After.{after}
+use Rattle.history_state.specs.Laws.{EntersBy, ImagesAreMapped, IsCodeOf, IsIn, LoadsEnterCode, SlotsLeadToRx, slot_address}
 use Rattle.history_state.specs.Memory.{first_word_at, is_in, role_at}
 use Rattle.history_state.specs.Objects.{IsMapped}
+use Rattle.history_state.specs.Setting.{Setting}
 use Rattle.history_state.specs.Slots.{value_at_load}
 use Rattle.history_state.specs.State.{Linked, State}
 use Rattle.history_state.specs.Lemmas.Lazy.{PageLaws, lazy_lies}
@@ -32,7 +35,7 @@ use Rattle.history_state.specs.Lemmas.Tidy.{in_at}
 use Rattle.history_memory.specs.Holds.{IsSlotAt, SlotHolds, Took, TookAt}
 use Rattle.history_memory.specs.Lemmas.Distinct.{one_slot}
 use Rattle.history_memory.specs.Lemmas.Slots.{one_image_at}
-use Rattle.world_laws.specs.RunMoments.OfJournal.{EntersChosen, IsCode}
+use Rattle.world_laws.specs.RunMoments.OfJournal.{ChoseAtLoad, EntersChosen, IsCode, JournalIsTrue}
 use Rattle.world_laws.specs.RunMoments.OfWords.{SlotLeads}
 
 -- ---- code of an object
@@ -135,54 +138,59 @@ home_of s m images i there =
       base = ap (λ (j : Linked). j.base) (sym same) ∙ of.base;
     }
 
--- ---- slots
+-- ---- what slots begin with
 
-pub record SlotLaws (s : State) : Type 0 where
-  pub mapped : Mapped s
-  pub images : ImagesAreMapped s
-  pub begins : SlotsBegin s
-  pub leads : SlotsLeadToRx s
-  pub grants : SlotsEnterCode s
-  pub loads : LoadsEnterCode s
-  pub grant_word : (g : Granting) → Contains s.grants g → g.value < 2 ^ 64
-  pub load_word : (owner slot value : ℕ) → value_at_load s owner slot ≡ Some value → value < 2 ^ 64
-  pub stands : (i : Linked) (slot : ℕ) (r : Reloc) → Contains s.images i → slice_get i.object.plt_relocs slot ≡ Some r
-      → IsSlotAt s (slot_address i r) i.serial slot
+module _ (pages : PageLaws) (s : State) (m : Mapped s) (images : ImagesAreMapped s) where
+  pub enters_at_load : LoadsEnterCode s → (i : Linked) (slot value : ℕ) → Contains s.images i → value_at_load s i.serial slot ≡ Some value → value < 2 ^ 64
+      → (choice : Choice) × ChoseAtLoad s i slot choice × EntersChosen s choice value
+  enters_at_load loads i slot value there got word =
+      let home = home_of s m images i there in
+      let enters = loads home.namespace home.object slot value home.inside
+      (subst (λ (n : ℕ). value_at_load s n slot ≡ Some value) (sym home.serial) got) in (
+        enters.choice,
+        record {
+          chosen = enters.chosen;
+          there = enters.there;
+          owner = enters.owner ∙ home.serial;
+          is = subst (λ (o : Object). slice_get enters.chosen.choices (length o.relocs + slot) ≡ Some (Some enters.choice)) (sym home.is) enters.chose;
+        },
+        chosen_code pages s m images enters.choice value word enters.enters,
+      )
+
+  pub enters_lazy : SlotsLeadToRx s → (i : Linked) (slot : ℕ) (r : Reloc) → Contains s.images i → slice_get i.object.plt_relocs slot ≡ Some r
+      → IsCode s i.serial (moved_word i.object i.base r.place)
+  enters_lazy leads i slot r there at =
+      let home = home_of s m images i there in
+      let rx : role_at s (moved_word home.object.object home.object.base r.place) ≡ Rx =
+      leads.lazy home.namespace home.object slot r home.inside (subst (λ (o : Object). slice_get o.plt_relocs slot ≡ Some r) home.is at) in
+      let own : role_at s (moved_word i.object i.base r.place) ≡ Rx =
+      ap (λ (o : Object). role_at s (moved_word o i.base r.place)) home.is ∙ ap
+      (λ (b : ℕ). role_at s (moved_word home.object.object b r.place)) home.base ∙ rx in
+      lazy_code pages s m images i there r (at_in i.object.plt_relocs slot r at) own
+
+-- ---- what slots hold
 
 -- a grant that took a slot isn't lost
 took_kept : (won : List ℕ) (g : Granting) → Took won g → (saw : ℕ) → g.standing ≢ Lost saw
 took_kept won g (inl bound) saw lost = let no : Bound ≡ Lost saw = sym bound ∙ lost in cc
 took_kept won g (inr both) saw lost = let no : Open ≡ Lost saw = sym both.0 ∙ lost in cc
 
-module _ (pages : PageLaws) (s : State) (laws : SlotLaws s) (won : List ℕ) (i : Linked) (slot : ℕ) (r : Reloc)
-    (there : Contains s.images i) (at : slice_get i.object.plt_relocs slot ≡ Some r) where
-  home : Home s i
-  home = home_of s laws.mapped laws.images i there
-
-  by_first : (value : ℕ) (got : Option ℕ) → value_at_load s i.serial slot ≡ got → value ≡ first_word_at s (slot_address i r) → SlotLeads s won i slot r value
+module _ (w : Setting) (journal : List Event) (m : Mapped (after journal)) (is_true : JournalIsTrue w journal) (won : List ℕ)
+    (i : Linked) (slot : ℕ) (r : Reloc) (there : Contains (after journal).images i) (at : slice_get i.object.plt_relocs slot ≡ Some r)
+    (here : IsSlotAt (after journal) (slot_address i r) i.serial slot) where
+  by_first : (value : ℕ) (got : Option ℕ) → value_at_load (after journal) i.serial slot ≡ got → value ≡ first_word_at (after journal) (slot_address i r)
+      → SlotLeads (after journal) won i slot r value
   by_first value (Some first) got is =
-      let word = laws.load_word i.serial slot first got in
-      let same : value ≡ first = is ∙ laws.begins.at_load i slot first r there at got word in
-      let enters = laws.loads home.namespace home.object slot first home.inside
-      (subst (λ (n : ℕ). value_at_load s n slot ≡ Some first) (sym home.serial) got) in
-      subst (SlotLeads s won i slot r) (sym same) (SlotLeads.at_load enters.choice got (record {
-        chosen = enters.chosen;
-        there = enters.there;
-        owner = enters.owner ∙ home.serial;
-        is = subst (λ (o : Object). slice_get enters.chosen.choices (length o.relocs + slot) ≡ Some (Some enters.choice)) (sym home.is) enters.chose;
-      }) (chosen_code pages s laws.mapped laws.images enters.choice first word enters.enters))
+      let same : value ≡ first = is ∙ is_true.history.first_words.at_load i slot first r there at got in
+      let enters = is_true.choices.enter_at_load i slot first there got in
+      subst (SlotLeads (after journal) won i slot r) (sym same) (SlotLeads.at_load enters.0 got enters.1 enters.2)
   by_first value None got is =
-      let same : value ≡ moved_word i.object i.base r.place = is ∙ laws.begins.lazy i slot r there at got in
-      let rx : role_at s (moved_word home.object.object home.object.base r.place) ≡ Rx =
-      laws.leads.lazy home.namespace home.object slot r home.inside (subst (λ (o : Object). slice_get o.plt_relocs slot ≡ Some r) home.is at) in
-      let own : role_at s (moved_word i.object i.base r.place) ≡ Rx =
-      ap (λ (o : Object). role_at s (moved_word o i.base r.place)) home.is ∙ ap
-      (λ (b : ℕ). role_at s (moved_word home.object.object b r.place)) home.base ∙ rx in
-      SlotLeads.unbound got same (subst (IsCode s i.serial) (sym same) (lazy_code pages s laws.mapped laws.images i there r (at_in i.object.plt_relocs slot r at) own))
+      let same : value ≡ moved_word i.object i.base r.place = is ∙ is_true.history.first_words.lazy i slot r there at got in
+      SlotLeads.unbound got same (subst (IsCode (after journal) i.serial) (sym same) (is_true.choices.enter_lazy i slot r there at))
 
-  by_grant : (value : ℕ) (g : Granting) → TookAt s won (slot_address i r) g → value ≡ g.value → SlotLeads s won i slot r value
+  by_grant : (value : ℕ) (g : Granting) → TookAt (after journal) won (slot_address i r) g → value ≡ g.value → SlotLeads (after journal) won i slot r value
   by_grant value g took is =
-      let here = laws.stands i slot r there at in
+      let s : State = after journal in
       let of = took.of in
       let images : here.image ≡ of.image = one_image_at s (slot_address i r) i.serial slot g.owner g.slot here of in
       let owner : g.owner ≡ i.serial = sym of.serial ∙ sym (ap (λ (j : Linked). j.serial) images) ∙ here.serial in
@@ -190,12 +198,11 @@ module _ (pages : PageLaws) (s : State) (laws : SlotLaws s) (won : List ℕ) (i 
       subst (λ (j : Linked). slice_get j.object.plt_relocs slot ≡ Some here.reloc) images here.at in
       let place : here.reloc.place ≡ of.reloc.place = sym here.place ∙ ap (λ (j : Linked). own_address j.base (slot_address i r)) images ∙ of.place in
       let kept : Contains s.images of.image = (found_in (λ q. is_in q (slot_address i r)) s.images of.image of.found).0 in
-      let slots : g.slot ≡ slot = sym (one_slot of.image.object (laws.mapped.accepted of.image kept).image slot g.slot here.reloc of.reloc first of.at place) in
-      let maps : IsMapped s g.owner = subst (IsMapped s) (sym owner) (laws.images.image i there) in
+      let slots : g.slot ≡ slot = sym (one_slot of.image.object (m.accepted of.image kept).image slot g.slot here.reloc of.reloc first of.at place) in
+      let maps : IsMapped s g.owner = subst (IsMapped s) (sym owner) (is_true.history.mapped.image i there) in
       SlotLeads.by_grant g took.there owner slots took.took is
-      (subst (EntersChosen s g.choice) (sym is)
-      (chosen_code pages s laws.mapped laws.images g.choice g.value (laws.grant_word g took.there) (laws.grants g took.there (took_kept won g took.took) maps)))
+      (subst (EntersChosen s g.choice) (sym is) (is_true.choices.enter g took.there (took_kept won g took.took) maps))
 
-  pub leads_so : (value : ℕ) → SlotHolds s won (slot_address i r) value → SlotLeads s won i slot r value
-  leads_so value (SlotHolds.first is none) = by_first value (value_at_load s i.serial slot) refl is
+  pub leads_so : (value : ℕ) → SlotHolds (after journal) won (slot_address i r) value → SlotLeads (after journal) won i slot r value
+  leads_so value (SlotHolds.first is none) = by_first value (value_at_load (after journal) i.serial slot) refl is
   leads_so value (SlotHolds.exchanged g took is first_word only) = by_grant value g took is

@@ -6,14 +6,11 @@ use Rattle.history_event.specs.declared.event.Event.{Event}
 use Rattle.history_calls.specs.declared.link_served.startup.Setup.{Setup}
 use Rattle.history_state.specs.Accepted.{AcceptsOnly}
 use Rattle.history_state.specs.After.{after}
-use Rattle.history_state.specs.Laws.{ImagesAreMapped, LoadsEnterCode, SlotsBegin, SlotsEnterCode, SlotsLeadToRx, slot_address}
+use Rattle.history_state.specs.Laws.{slot_address}
 use Rattle.history_state.specs.Legal.{Lawful, Legal}
 use Rattle.history_state.specs.Setting.{Machine, Setting}
 use Rattle.history_state.specs.State.{Linked}
-use Rattle.history_state.specs.Lemmas.Brought.{LoadLaws}
 use Rattle.history_state.specs.Lemmas.History.{legal_is_lawful}
-use Rattle.history_state.specs.Lemmas.Lazy.{PageLaws}
-use Rattle.history_state.specs.Lemmas.LoadWords.{grant_word, load_word}
 use Rattle.history_state.specs.Lemmas.Map.{Mapped}
 use Rattle.history_memory.specs.Holds.{IsSlotAt}
 use Rattle.link_open_images.specs.NewBlocks.Laws.{HartsHaveNewBlocks}
@@ -32,7 +29,7 @@ use Rattle.world_laws.specs.RunMoments.OfWords.{SlotsAreTrue}
 use Rattle.world_laws.specs.RunMoments.True.{ClosesItsOwn, IsTrueAt, StaysTrue}
 use Rattle.world_laws.proofs.RunMoments.Answered.{answers_look_up, enters_its_slot}
 use Rattle.world_laws.proofs.RunMoments.Ended.{AllAreTold, last_ends, later_told, start_told}
-use Rattle.world_laws.proofs.RunMoments.Entered.{SlotLaws, leads_so}
+use Rattle.world_laws.proofs.RunMoments.Entered.{leads_so}
 use Rattle.world_laws.proofs.RunMoments.Framed.{FrameLaws, closes_own, later_stands, stands_sound, start_stands}
 use Rattle.world_laws.proofs.RunMoments.Grown.{later_has_more}
 use Rattle.world_laws.proofs.RunMoments.Inside.{grants_in_calls}
@@ -63,14 +60,7 @@ turns_true laws w past h b c did only legal moves =
 -- ---- a world
 
 pub record MomentLaws (m : Machine) : Type 0 where
-  pub pages : PageLaws
-  pub load : LoadLaws
   pub mapped : (journal : List Event) → Lawful m journal → Mapped (after journal)
-  pub images : (journal : List Event) → Lawful m journal → ImagesAreMapped (after journal)
-  pub begins : (journal : List Event) → Lawful m journal → SlotsBegin (after journal)
-  pub leads : (journal : List Event) → Lawful m journal → SlotsLeadToRx (after journal)
-  pub grants : (journal : List Event) → Lawful m journal → SlotsEnterCode (after journal)
-  pub loads : (journal : List Event) → Lawful m journal → LoadsEnterCode (after journal)
   pub stands : (journal : List Event) (i : Linked) (slot : ℕ) (r : Reloc) → Lawful m journal → Contains (after journal).images i
       → slice_get i.object.plt_relocs slot ≡ Some r → IsSlotAt (after journal) (slot_address i r) i.serial slot
   pub journals : JournalsAreTrue
@@ -81,28 +71,16 @@ pub record MomentLaws (m : Machine) : Type 0 where
   pub turns : TurnsAreTrue
 
 module _ (w : Setting) (laws : MomentLaws w.machine) (only : AcceptsOnly w.machine) where
-  slot_laws : (journal : List Event) → Lawful w.machine journal → SlotLaws (after journal)
-  slot_laws journal lawful = record {
-    mapped = laws.mapped journal lawful;
-    images = laws.images journal lawful;
-    begins = laws.begins journal lawful;
-    leads = laws.leads journal lawful;
-    grants = laws.grants journal lawful;
-    loads = laws.loads journal lawful;
-    grant_word = grant_word laws.load w.machine journal lawful;
-    load_word = load_word w.machine journal lawful;
-    stands = λ i slot r there at. laws.stands journal i slot r lawful there at;
-  }
-
   slots_true : (world : World) → Sound w world → SlotsAreTrue (after world.journal) (winners world.harts) (memory_of world.words)
   slots_true world sound =
       let slots = laws.slot_true w world only sound in
+      let lawful = legal_is_lawful w world.journal sound.legal in
       record {
         holds = sound.holds;
         slots = slots;
         lead = λ i slot r there at.
-            leads_so laws.pages (after world.journal) (slot_laws world.journal (legal_is_lawful w world.journal sound.legal))
-            (winners world.harts) i slot r there at
+            leads_so w world.journal (laws.mapped world.journal lawful) (laws.journals w world.journal only sound.legal)
+            (winners world.harts) i slot r there at (laws.stands world.journal i slot r lawful there at)
             ((memory_of world.words).value (slot_address i r)) (slots.holds i slot r there at);
       }
 

@@ -1,5 +1,5 @@
 -- What is true of a journal alone, on one thread and on many: its history, its choices, its thread-local storage and its closings.
-use Rattle.std.specs.Prelude.{◌≡◌, ◌≢◌, ℕ, ◌+◌, ◌^◌, ◌%◌, List, ◌++◌, take, Some, None, Contains, IsTrue}
+use Rattle.std.specs.Prelude.{◌≡◌, ◌≢◌, ℕ, ◌+◌, ◌^◌, ◌%◌, List, ◌++◌, length, take, Some, None, Contains, IsTrue}
 use Rattle.std.specs.List.{slice_get}
 use Rattle.ld_base.specs.declared.linking.Choice.{Choice}
 use Rattle.ld_base.specs.declared.linking.Choice.TheVariants.{Def, Missing, WeakZero}
@@ -78,6 +78,13 @@ pub record WasChosen (journal : List Event) (c : Chosen) : Type 0 where
   pub inside : Contains added object
   pub is : c ≡ opening_choice (after (take place journal)) hart ask id root added ranges object
 
+-- what the slot chose when its object was loaded
+pub record ChoseAtLoad (s : State) (i : Linked) (slot : ℕ) (choice : Choice) : Type 0 where
+  pub chosen : Chosen
+  pub there : Contains s.chosen chosen
+  pub owner : chosen.owner ≡ i.serial
+  pub is : slice_get chosen.choices (length i.object.relocs + slot) ≡ Some (Some choice)
+
 -- the address is code of the object with a serial: it lies in the linker's own page for the linker's own, 0; else in the image of that object, which
 -- is mapped, in a word of it that may be executed
 pub data IsCode (s : State) (serial a : ℕ) : Type 0 where
@@ -99,6 +106,12 @@ pub record ChoicesAreTrue (journal : List Event) : Type 0 where
   -- what a grant put into the slot of a mapped object, or may still put there, enters the object that it chose
   pub enter : (g : Granting) → Contains (after journal).grants g → ((saw : ℕ) → g.standing ≢ Lost saw) → IsMapped (after journal) g.owner
       → EntersChosen (after journal) g.choice g.value
+  -- what such a slot got at load enters the object that it chose then
+  pub enter_at_load : (i : Linked) (slot value : ℕ) → Contains (after journal).images i → value_at_load (after journal) i.serial slot ≡ Some value
+      → (choice : Choice) × ChoseAtLoad (after journal) i slot choice × EntersChosen (after journal) choice value
+  -- and the word that it holds until it is bound enters its own object
+  pub enter_lazy : (i : Linked) (slot : ℕ) (r : Reloc) → Contains (after journal).images i → slice_get i.object.plt_relocs slot ≡ Some r
+      → IsCode (after journal) i.serial (moved_word i.object i.base r.place)
 
 -- ---- the storage
 

@@ -1,9 +1,8 @@
 -- What is true of guest memory in a state, on one thread and on many: the slots.
-use Rattle.std.specs.Prelude.{◌≡◌, ◌≢◌, ℕ, ◌+◌, List, length, Some, None, Contains}
+use Rattle.std.specs.Prelude.{◌≡◌, ◌≢◌, ℕ, List, Some, None, Contains}
 use Rattle.std.specs.List.{slice_get}
 use Rattle.ld_base.specs.declared.linking.Choice.{Choice}
 use Rattle.ld_base.specs.declared.object.Reloc.{Reloc}
-use Rattle.history_event.specs.declared.state.Chosen.{Chosen}
 use Rattle.history_event.specs.declared.state.Granting.{Granting}
 use Rattle.relocator.specs.Relocated.{moved_word}
 use Rattle.history_state.specs.Laws.{slot_address}
@@ -12,16 +11,9 @@ use Rattle.history_state.specs.State.{Linked, State}
 use Rattle.history_memory.specs.Enters.{SlotStays, SlotTrue}
 use Rattle.history_memory.specs.Holds.{Holds, Took, lazy_at}
 use Rattle.history_memory.specs.Memory.{Memory}
-use Rattle.world_laws.specs.RunMoments.OfJournal.{EntersChosen, IsCode}
+use Rattle.world_laws.specs.RunMoments.OfJournal.{ChoseAtLoad, EntersChosen, IsCode}
 
 -- ---- one moment
-
--- what the slot chose when its object was loaded
-pub record ChoseAtLoad (s : State) (i : Linked) (slot : ℕ) (choice : Choice) : Type 0 where
-  pub chosen : Chosen
-  pub there : Contains s.chosen chosen
-  pub owner : chosen.owner ≡ i.serial
-  pub is : slice_get chosen.choices (length i.object.relocs + slot) ≡ Some (Some choice)
 
 -- the slot of a mapped object holds this, and so leads there; some grants have won their slots and aren't settled yet
 pub data SlotLeads (s : State) (won : List ℕ) (i : Linked) (slot : ℕ) (r : Reloc) (value : ℕ) : Type 0 where

@@ -2,9 +2,10 @@
 
 ghost use Rattle.world_laws.specs.RunMoments.Laws.{ClosingsComeToReturn, GrantsAreMadeByTurns, JournalsAreTrue, ReachedIsTrue, ReachedStaysTrue, RunsAreTrue, TurnsAreTrue};
 
-/// A legal journal is a true history, whoever kept it: what each slot was bound to the rules chose at one
-/// moment, and it enters the very object that was chosen; blocks of thread-local storage are apart, and
-/// look-ups count from the hart's own; what is to be unmapped died by one closing, when nothing needed it.
+/// A legal journal is a true history, whoever kept it: what each slot was bound to, at load or by a grant,
+/// the rules chose at one moment, and it enters the very object that was chosen; a slot's lazy word enters
+/// its own object; blocks of thread-local storage are apart, and look-ups count from the hart's own; what is
+/// to be unmapped died by one closing, when nothing needed it.
 pub fn journals_are_true()
     ensures { JournalsAreTrue }
 {
@@ -16,7 +17,9 @@ pub fn journals_are_true()
     history_state::slots_begin();
     history_state::blocks_are_apart();
     history_state::grants_are_held();
+    history_state::slots_lead_to_rx();
     history_state::slots_enter_code();
+    history_state::loads_enter_code();
 }
 
 /// Behind any legal journal a hart's turn is true: each grant that it appends is made inside the hart's own
@@ -43,12 +46,6 @@ pub fn worlds_are_true()
     scope_rule::serials_follow();
     scope_rule::found_stands();
     scope_rule::reads_candidates();
-    seg_image::pages_hold_segments();
-    history_state::images_are_mapped();
-    history_state::slots_begin();
-    history_state::slots_lead_to_rx();
-    history_state::slots_enter_code();
-    history_state::loads_enter_code();
     history_memory::slots_stand();
     world_turns::ends_fit();
     world_turns::frames_belong();

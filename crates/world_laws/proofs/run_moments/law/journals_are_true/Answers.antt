@@ -6,7 +6,7 @@ use Rattle.history_state.specs.Lemmas.Map.{mapped_after}
 use Rattle.world_laws.proofs.RunMoments.Journals.{JournalLaws, journals_true}
 use Rattle.world_laws.proofs.run_moments.law.journals_are_true.Goals as goal
 
-laws : (c : goal.After-slots_enter_code) (m : Machine) → AcceptsOnly m → JournalLaws m
+laws : (c : goal.After-loads_enter_code) (m : Machine) → AcceptsOnly m → JournalLaws m
 laws c m only =
     let pages : PageLaws = record {
       low = c.pages_hold_segments.ensures.low;
@@ -26,6 +26,8 @@ laws c m only =
       begins = λ journal lawful. c.slots_begin.ensures m journal only lawful;
       held = λ journal lawful. c.grants_are_held.ensures m journal lawful;
       grants = λ journal lawful. c.slots_enter_code.ensures m journal lawful;
+      loads = λ journal lawful. c.loads_enter_code.ensures m journal lawful;
+      leads = λ journal lawful. c.slots_lead_to_rx.ensures m journal only lawful;
       apart = λ journal lawful. c.blocks_are_apart.ensures m journal lawful;
     }
 
