@@ -53,7 +53,7 @@ pub record HasRunOnThreads (setup : Setup) (files : Option (List File)) (left : 
   -- the journal is a whole legal history; each hart follows from its start to its end, by the table of turns; none of its events is left out; and its
   -- trail says what the journal says
   pub is : IsThreaded (run_of setup files) setup left told
-  -- each slot of an object that is mapped has one value at the end, which each exchange of it put there or found
+  -- each exchange of a slot of an object that is mapped at the end put there or found its one value, or no grant of it was made
   pub slots : SlotsEnd left.journal.events told.joined
   -- behind each of its events the choices, the blocks of thread-local storage and the closings are what they should be
   pub moments : (k : ℕ) → JournalIsTrue (run_of setup files) (take k left.journal.events)

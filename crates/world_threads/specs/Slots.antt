@@ -1,4 +1,4 @@
--- What became of each slot by the end of a run on threads: it has one value, which each exchange of it put there or found.
+-- What became of each slot by the end of a run on threads: each exchange of it put there or found one value, or no grant of it was made.
 use Rattle.std.specs.Prelude.{◌≡◌, ◌⊎◌, ℕ, false, List, Some, None, Contains, IsTrue}
 use Rattle.std.specs.List.{slice_get}
 use Rattle.history_event.specs.declared.event.Event.{Event}

@@ -58,7 +58,7 @@ left_events (Err starts.Memory) = []
 pub record IsThreaded (w : Setting) (setup : Setup) (left : RunRecord) (trails : KeeperView) : Type 0 where
   -- its events are startup's, and then those of harts that there are and that hadn't ended
   pub by : IsRunJournal w setup left.journal.events
-  -- startup's constructors come first: where these stand behind its events they are over, and no other hart has taken a turn
+  -- startup's constructors come first: where these stand behind its events they are over, and none of these is another hart's
   pub alone : List Event
   pub more : List Event
   pub others_are : by.others ≡ alone ++ more
@@ -67,7 +67,7 @@ pub record IsThreaded (w : Setting) (setup : Setup) (left : RunRecord) (trails :
   -- what was initialised was finalised
   pub legal : Legal w left.journal.events
   pub whole : Whole w left.journal.events
-  -- the keeper counted these very events, and memory is what they left: the words of each image that is there, and of no other
+  -- the keeper counted these very events, and its view of memory is what they left: the words of each image that is there, and of no other
   pub counted : trails.events ≡ left.journal.events
   pub kept : AreKept w by.startup trails
   -- what became of each grant is known, and what was seen of a slot is the value of the one that was bound
