@@ -646,10 +646,10 @@ class Judge(State):
 
     def demand_due(self, kind, hart, line):
         """What a hart has to do before anything else: the constructors or destructors of an object that has none are over at
-        once, and what has been finalised is unmapped."""
+        once, and what has been finalised is unmapped. Memory may be lacking for each of these."""
         named = self.named_harts == len(self.setup.harts) or 1 in self.inits
         due = self.due(hart) if self.spaces and named else None
-        demand(due is None or line == due, f"first comes: {due}")
+        demand(due is None or line in (due, f"ended h={hart} memory"), f"first comes: {due}")
 
     def due(self, hart):
         loadings, closings = self.loading[hart], [c for c in self.closings if c.hart == hart]

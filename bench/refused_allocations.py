@@ -49,29 +49,33 @@ REFUSER = r"""
 
 extern void *__libc_malloc(size_t), *__libc_calloc(size_t, size_t), *__libc_realloc(void *, size_t);
 extern void *__libc_memalign(size_t, size_t);
-static atomic_ulong made;
+static atomic_ulong own, *made = &own;
 static unsigned long refused;
+
+/* How many there were is counted in a file, as eight bytes: so it is there however the program ends. */
+static void count_in(const char *path)
+{
+    int file = open(path, O_RDWR | O_CREAT | O_TRUNC, 0600);
+    if (file < 0 || ftruncate(file, sizeof *made))
+        return;
+    long place = syscall(SYS_mmap, NULL, sizeof *made, PROT_READ | PROT_WRITE, MAP_SHARED, file, 0);
+    if (place != -1)
+        made = (atomic_ulong *)place;
+    close(file);
+}
 
 __attribute__((constructor)) static void begin(void)
 {
-    const char *word = getenv("REFUSED");
+    const char *word = getenv("REFUSED"), *path = getenv("COUNTED");
     refused = word ? strtoul(word, NULL, 10) : 0;
-    atomic_store(&made, 0);
-}
-
-/* How many there were, as eight bytes. */
-__attribute__((destructor)) static void finish(void)
-{
-    const char *path = getenv("COUNTED");
-    unsigned long count = atomic_load(&made);
-    int file = path ? open(path, O_WRONLY | O_CREAT | O_TRUNC, 0600) : -1;
-    if (file >= 0 && write(file, &count, sizeof count) == sizeof count)
-        close(file);
+    if (path)
+        count_in(path);
+    atomic_store(made, 0);
 }
 
 static int is_refused(void)
 {
-    if (atomic_fetch_add(&made, 1) + 1 != refused)
+    if (atomic_fetch_add(made, 1) + 1 != refused)
         return 0;
     errno = ENOMEM;
     return 1;
