@@ -115,25 +115,54 @@ def waits():
     row(2, "for 202 turns", long, f"{short.seconds + 0.05:.2f} s: nothing is read while it waits")
 
 
-def one_bucket(names):
-    """A program with as many slots as its library has names, all in one bucket."""
-    texts = [b"f%06d" % k for k in range(names)]
+def plain(names):
+    return [b"f%06d" % k for k in range(names)]
+
+
+def fallen(names):
+    """Names of one System V hash: that of aQ is that of bA, too."""
+    return [b"".join((b"bA", b"aQ")[k >> bit & 1] for bit in range(17)) for k in range(names)]
+
+
+def one_bucket(texts):
+    """A program with as many slots as its library has names, all in one bucket; the names are of one length."""
+    names, step = len(texts), len(texts[0]) + 1
     strings = b"\0\0\0liba.so\0" + b"\0".join(texts) + b"\0"
     hashes = [gnu_hash(text) & ~1 for text in texts]
     hashes[-1] |= 1
     table = struct.pack("<4IQI", 1, 1, 1, 6, 2**64 - 1, 1) + struct.pack(f"<{names}I", *hashes)
-    defined = [struct.pack("<IBBHQQ", 11 + 8 * k, 0x12, 0, 1, 0x1000, 4) for k in range(names)]
-    undefined = [struct.pack("<IBBHQQ", 11 + 8 * k, 0x12, 0, 0, 0, 0) for k in range(names)]
-    empty = struct.pack("<3I", 1, names + 1, 0) + bytes(4 * (names + 1))
+    defined = [struct.pack("<IBBHQQ", 11 + step * k, 0x12, 0, 1, 0x1000, 4) for k in range(names)]
     library = one_name.build(3, (0x6FFFFEF5, table), defined, 0, [], 0, strings=strings)
-    program = one_name.build(3, (4, empty), undefined, 1, list(range(1, names + 1)), 0, strings=strings)
-    return {"prog": program, "lib/liba.so": library}
+    return {"prog": asking(b"liba.so", texts), "lib/liba.so": library}
+
+
+def asking(needed, texts):
+    """An object with a slot for each of these names."""
+    names, step = len(texts), len(texts[0]) + 1
+    strings = b"\0\0\0" + needed + b"\0" + b"\0".join(texts) + b"\0"
+    undefined = [struct.pack("<IBBHQQ", 4 + len(needed) + step * k, 0x12, 0, 0, 0, 0) for k in range(names)]
+    empty = struct.pack("<3I", 1, names + 1, 0) + bytes(4 * (names + 1))
+    return one_name.build(3, (4, empty), undefined, 1, list(range(1, names + 1)), 0, strings=strings)
+
+
+def shared(objects, slots, names):
+    """A chain of objects with so many slots each to a library whose names are all in one bucket."""
+    texts = plain(names)
+    files = {"lib/liba.so": one_bucket(texts)["lib/liba.so"]}
+    for k in range(objects):
+        needed = b"l%04d.so" % (k + 1) if k + 1 < objects else b"liba.so"
+        files[f"lib/l{k:04}.so" if k else "prog"] = asking(needed, (texts * 2)[k * slots % names:][:slots])
+    return files
 
 
 def buckets():
     for names in (20000, 80000):
-        files = one_bucket(names)
+        files = one_bucket(plain(names))
         row(3, f"bind of {names} slots to as many names in one bucket", scenario(files, "bind --lib lib prog"), "5 s")
+    done = scenario(one_bucket(fallen(40000)), "bind --lib lib prog")
+    row(3, "bind of 40000 slots to as many names of one System V hash", done, "5 s")
+    done = scenario(shared(1000, 60, 60000), "bind --lib lib prog")
+    row(3, "bind of 1000 objects with 60 slots each to 60000 names in one bucket", done, "5 s")
 
 
 def library_named(number, needed):
