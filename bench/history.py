@@ -639,10 +639,14 @@ class Judge(State):
             return False
         if not self.spaces:
             demand(kind == "open" and hart == 0, "a run begins with its opening")
-        elif 1 not in self.inits and not (kind == "sym" and self.named_harts < len(self.setup.harts)):
+        elif not self.has_started() and not (kind == "sym" and self.named_harts < len(self.setup.harts)):
             demand(hart == 0, "startup's constructors run on hart 0, before all else")
         ends = sum(h == hart for h, _ in self.endings)
         return ends == 0 or hart == 0 and ends == 1 and self.have_exited()
+
+    def has_started(self):
+        """Startup's constructors are over, or the hart that runs them has ended."""
+        return 1 in self.inits or any(hart == 0 for hart, _ in self.endings)
 
     def demand_due(self, kind, hart, line):
         """What a hart has to do before anything else: the constructors or destructors of an object that has none are over at
