@@ -4,8 +4,9 @@
 
 A run has to end with status 123 or with that of the example, and may not take longer than a minute. Under `turns` its
 text has to be a front of the example's, up to the first hart that ends for want of memory. Under `run --trace`, whose
-harts come in any order, its last line has to be the example's or that of a hart that wanted memory, and its journal has
-to be legal and whole for bench/history.py; or nothing is written. What doesn't hold is told, with its N. A small library,
+harts come in any order, its last line has to be the example's, that of a hart that wanted memory, or that of one that
+waited for such a hart up to its fuel (status 124), and its journal has to be legal and whole for bench/history.py; or
+nothing is written. What doesn't hold is told, with its N. A small library,
 which cc compiles and LD_PRELOAD puts before the C library's, refuses the allocation. The program is that of LDSO, or
 crates/ldso/out/ldso."""
 
@@ -109,7 +110,8 @@ class Runs:
 
     def __init__(self, ldso, refuser, example, root):
         self.ldso, self.refuser, self.example = ldso, refuser, example
-        self.words = examples.traced(example.words)
+        # (a hart that waits for one that has ended spends all its fuel)
+        self.words = examples.traced(example.words).replace("--fuel 50000000", "--fuel 5000000")
         self.count = Path(root, "count")
         self.place = examples.lay_out(root, example.files)
 
@@ -131,7 +133,7 @@ class Runs:
         """What is wrong with an answer, or None."""
         if status is None:
             return "hangs"
-        if status not in (123, self.example.ends_with()):
+        if status not in (123, self.example.ends_with()) and not self.waited_in_vain(status, text):
             return f"status {status}"
         if self.words.startswith("run "):
             return self.complaint_of_threads(status, text)
@@ -145,12 +147,16 @@ class Runs:
             return "another text than a front of the right one"
         return None
 
+    def waited_in_vain(self, status, text):
+        """Whether the first hart waited for one that had ended for want of memory, up to its fuel."""
+        return self.words.startswith("run ") and status == 124 and any(l.endswith(" memory") for l in text.splitlines())
+
     def complaint_of_threads(self, status, text):
         """What is wrong with a journal of harts on threads, or None."""
         if not text and status == 123:
             return None
         lines = text.splitlines()
-        last = "end 123 hart " if status == 123 else self.example.lines[-1]
+        last = f"end {status} hart " if status in (123, 124) else self.example.lines[-1]
         why = history.judge(self.words, history.given(self.example)[1], [], lines)
         if why or not lines[-1].startswith(last):
             return f"status {status}, {lines[-1]}: {why}"
