@@ -22,21 +22,28 @@ import history
 
 SECONDS = 60
 CHOSEN = {
-    "turns": {
-        "first-match": ("turns.txt", "the first definition in load order is called"),
-        "race": ("turns.txt", "two harts race for a slot"),
-        "late-tls": ("turns.txt", "a block goes with its library"),
-        "realistic": ("assembled.txt", "three harts bind the forty slots, a turn each"),
-        "cycle": ("closing.txt", "two libraries that are bound to each other are closed together"),
+    "first-match": {
+        "turns": ("turns.txt", "the first definition in load order is called"),
+        "run": ("threads.txt", "the first definition in load order is called on a thread"),
     },
-    "run": {
-        "first-match": ("threads.txt", "the first definition in load order is called on a thread"),
-        "race": ("threads.txt", "two harts on threads race for a slot"),
-        "late-tls": ("threads.txt", "each hart on a thread has its own block of a library"),
-        "realistic": ("assembled.txt", "forty slots are bound on threads"),
-        "cycle": ("threads.txt", "two libraries that are bound to each other are closed together on a thread"),
+    "race": {
+        "turns": ("turns.txt", "two harts race for a slot"),
+        "run": ("threads.txt", "two harts on threads race for a slot"),
+    },
+    "late-tls": {
+        "turns": ("turns.txt", "a block goes with its library"),
+        "run": ("threads.txt", "each hart on a thread has its own block of a library"),
+    },
+    "realistic": {
+        "turns": ("assembled.txt", "three harts bind the forty slots, a turn each"),
+        "run": ("assembled.txt", "forty slots are bound on threads"),
+    },
+    "cycle": {
+        "turns": ("closing.txt", "two libraries that are bound to each other are closed together"),
+        "run": ("threads.txt", "two libraries that are bound to each other are closed together on a thread"),
     },
 }
+COMMANDS = ["turns", "run"]
 REFUSER = r"""
 #define _GNU_SOURCE
 #include <errno.h>
@@ -179,14 +186,14 @@ def tries(runs):
 
 def main(words):
     ldso, failed = examples.program().resolve(), False
-    commands = [word for word in words if word in CHOSEN] or list(CHOSEN)
-    names = [word for word in words if word not in CHOSEN] or list(CHOSEN["turns"])
+    commands = [word for word in words if word in COMMANDS] or COMMANDS
+    names = [word for word in words if word not in COMMANDS] or list(CHOSEN)
     with tempfile.TemporaryDirectory() as root:
         source, refuser = Path(root, "refuser.c"), Path(root, "refuser.so")
         source.write_text(REFUSER)
         subprocess.run(["cc", "-O2", "-shared", "-fPIC", "-o", refuser, source], check=True)
         for command, name in [(command, name) for command in commands for name in names]:
-            file, title = CHOSEN[command][name]
+            file, title = CHOSEN[name][command]
             example = next(e for e in examples.examples(ldso, [file]) if e.title == title)
             count, seen, wrong = tries(Runs(ldso, refuser, example, Path(root, command, name)))
             statuses = ", ".join(f"{n} with status {s}" for s, n in sorted(seen.items(), key=str))

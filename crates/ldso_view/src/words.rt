@@ -43,7 +43,7 @@ pub fn command<'a>(alloc: Global) -> Result<Command<'a>, AllocError> {
         "A file with the journal; standard input without",
     );
     Command::new(alloc, "ldso_view")
-        .about("Shows the journal that `ldso turns` printed")
+        .about("Shows the journal that `ldso turns`, or `ldso run --trace`, printed")
         .arg(form)?
         .arg(folder)?
         .arg(journal)
