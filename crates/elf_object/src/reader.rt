@@ -43,19 +43,20 @@ fn object_of(
     ensures { IfOk result (λ object. object ≡ object_of bytes.now head.now parts versions) }
 {
     let headers = head.headers.as_slice();
+    let symbols = with_versions(alloc, parts.symbols, versions.versym.as_slice())?;
     Ok(Object {
         kind: head.kind,
         entry: head.entry,
         soname: parts.soname,
-        needed: parts.needed,
-        segments: read_segments(alloc, bytes, head)?,
-        symbols: with_versions(alloc, parts.symbols, versions.versym.as_slice())?,
+        needed: parts.needed.into_shared(alloc)?,
+        segments: read_segments(alloc, bytes, head)?.into_shared(alloc)?,
+        symbols: symbols.into_shared(alloc)?,
         first_exported: parts.first_exported,
         has_versym: versions.has_versym,
-        verdefs: versions.verdefs,
-        verneeds: versions.verneeds,
-        relocs: parts.relocs,
-        plt_relocs: parts.plt_relocs,
+        verdefs: versions.verdefs.into_shared(alloc)?,
+        verneeds: versions.verneeds.into_shared(alloc)?,
+        relocs: parts.relocs.into_shared(alloc)?,
+        plt_relocs: parts.plt_relocs.into_shared(alloc)?,
         pltgot: parts.pltgot,
         preinit: parts.preinit,
         init: parts.init,
@@ -65,7 +66,7 @@ fn object_of(
         tls: tls_of(headers),
         relro: relro_of(headers),
         flags: parts.flags,
-        relr: parts.relr,
+        relr: parts.relr.into_shared(alloc)?,
         dynamic: dynamic_of(headers),
     })
 }

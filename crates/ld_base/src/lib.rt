@@ -13,6 +13,7 @@ mod number;
 mod object;
 mod parts;
 mod sequence;
+mod shared_list;
 mod symbols;
 mod text;
 
@@ -33,4 +34,5 @@ pub use parts::{
     Versions,
 };
 pub use sequence::{Bytes, Names, Sequence, Serials};
-pub use symbols::Symbols;
+pub use shared_list::SharedList;
+pub use symbols::{SharedSymbols, Symbols};

@@ -1,6 +1,6 @@
 //! What a linked object holds, as its reader gives it.
 
-use crate::{Bytes, Name, Names, Sequence, Symbols};
+use crate::{Bytes, Name, Sequence, SharedList, SharedSymbols};
 
 /// Whether an object stands at its own addresses (ET_EXEC) or anywhere (ET_DYN).
 #[derive(Clone, Copy, PartialEq, Eq)]
@@ -103,18 +103,18 @@ pub struct Object {
     pub entry: u64,
     pub soname: Option<Name>,
     /// Names of DT_NEEDED, in order.
-    pub needed: Names,
-    pub segments: Segments,
-    pub symbols: Symbols,
+    pub needed: SharedList<Name>,
+    pub segments: SharedList<Segment>,
+    pub symbols: SharedSymbols,
     /// The least index that an exported definition may have.
     pub first_exported: u32,
     pub has_versym: bool,
-    pub verdefs: Verdefs,
-    pub verneeds: Verneeds,
+    pub verdefs: SharedList<Verdef>,
+    pub verneeds: SharedList<Verneed>,
     /// Relocations of DT_RELA, less those that are the table of DT_JMPREL.
-    pub relocs: Relocs,
+    pub relocs: SharedList<Reloc>,
     /// Relocations of DT_JMPREL, one a procedure linkage slot.
-    pub plt_relocs: Relocs,
+    pub plt_relocs: SharedList<Reloc>,
     pub pltgot: Option<u64>,
     pub preinit: Option<Span>,
     pub init: Option<u64>,
@@ -125,7 +125,7 @@ pub struct Object {
     pub relro: Option<Span>,
     pub flags: ObjFlags,
     /// Places of packed relative relocations (RELR).
-    pub relr: Places,
+    pub relr: SharedList<u64>,
     /// The address of the dynamic table.
     pub dynamic: u64,
 }

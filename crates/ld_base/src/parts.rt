@@ -1,7 +1,8 @@
 //! What the readers of an object's tables hand on to each other.
 
 use crate::{
-    Kind, Name, Names, ObjFlags, Places, Relocs, Sequence, Span, Symbols, Verdefs, Verneeds,
+    Kind, Name, Names, ObjFlags, Places, Relocs, Sequence, SharedList, Span, Symbols, Verdefs,
+    Verneeds,
 };
 
 /// A program header.
@@ -85,14 +86,14 @@ pub struct HashTable {
 pub struct GnuPart {
     pub symoffset: u32,
     pub shift: u32,
-    pub bloom: Longs,
-    pub buckets: Ints,
-    pub chain: Ints,
+    pub bloom: SharedList<u64>,
+    pub buckets: SharedList<u32>,
+    pub chain: SharedList<u32>,
 }
 
 /// A System V hash table.
 #[derive(Drop)]
 pub struct SysvPart {
-    pub buckets: Ints,
-    pub chain: Ints,
+    pub buckets: SharedList<u32>,
+    pub chain: SharedList<u32>,
 }

@@ -1,8 +1,8 @@
 //! Symbol tables.
 
-ghost use Rattle.std.specs.Prelude.{◌≡◌, [], ◌∷◌, ◌++◌, ◌+◌, ◌<◌, ◌^◌, ◌==◌, length, OnOk, OnErr};
+ghost use Rattle.std.specs.Prelude.{◌≡◌, [], ◌∷◌, ◌++◌, ◌+◌, ◌<◌, ◌^◌, ◌==◌, length, OnOk, OnErr, IfOk};
 
-use crate::{Sequence, Symbol};
+use crate::{Sequence, SharedList, Symbol};
 use std::alloc::{AllocError, Global};
 use std::marker::Model;
 
@@ -77,5 +77,73 @@ impl Symbols {
     {
         let Symbols { items } = self;
         items.into_vec()
+    }
+
+    /// The symbols as they stand, to have several owners.
+    ///
+    /// # Errors
+    ///
+    /// Want of memory.
+    pub fn into_shared(self, alloc: Global) -> Result<SharedSymbols, AllocError>
+        ensures { IfOk result (λ symbols. symbols ≡ self) }
+    {
+        let Symbols { items } = self;
+        let items = items.into_shared(alloc)?;
+        Ok(SharedSymbols { items })
+    }
+}
+
+/// Symbols of an object, by index, which no longer change and may have several owners. There are fewer
+/// than 2^32.
+#[derive(Drop)]
+pub struct SharedSymbols {
+    items: SharedList<Symbol>,
+}
+
+impl Model for SharedSymbols {
+    ghost use Rattle.std.specs.Prelude.{List, length, ◌<◌, ◌^◌};
+    ghost use Rattle.ld_base.specs.declared.object.Symbol.{Symbol};
+
+    ghost Value = { List Symbol };
+
+    ghost view = { λ s. s.items };
+
+    ghost invariant = { λ s. length s.items < 2 ^ 32 };
+}
+
+impl SharedSymbols {
+    /// How many symbols there are.
+    pub fn len(&self) -> u32
+        ensures len { result ≡ length self.now }
+        ensures few { length self.now < 2 ^ 32 }
+    {
+        self.items.len() as u32
+    }
+
+    /// Whether there is no symbol.
+    pub fn is_empty(&self) -> bool
+        ensures { result ≡ (length self.now == 0) }
+    {
+        self.items.is_empty()
+    }
+
+    /// The symbols as a slice.
+    pub fn as_slice(&self) -> &[Symbol]
+        ensures value { result.now ≡ self.now }
+        ensures few { length self.now < 2 ^ 32 }
+    {
+        self.items.as_slice()
+    }
+
+    /// The same symbols for one owner more, in the same memory.
+    ///
+    /// # Errors
+    ///
+    /// Want of memory; so many owners that they can't be counted are that too.
+    pub fn share(&self) -> Result<Self, AllocError>
+        ensures { IfOk result (λ symbols. symbols ≡ self.now) }
+    {
+        let items = self.items.share()?;
+        Ok(SharedSymbols { items })
     }
 }

@@ -8,8 +8,8 @@ ghost use Rattle.relocator.specs.Example.{bytes_of_data, code, data_segment, def
 ghost use Rattle.relocator.specs.Example.{example_serial, lazily, own, symbol, undefined};
 
 use ld_base::{
-    Bytes, Choice, Kind, Name, Names, ObjFlags, Object, Places, Reloc, Relocs, Segment, Segments,
-    Sequence, Serial, Span, Symbol, Symbols,
+    Bytes, Choice, Kind, Name, ObjFlags, Object, Reloc, Segment, Serial, SharedList, SharedSymbols,
+    Span, Symbol, Symbols,
 };
 use relocator::{Binding, Bindings, ModulePlace, TlsPlaces, relocate, worked_example};
 use seg_image::{Image, make_image};
@@ -69,21 +69,21 @@ fn object(alloc: Global) -> Result<Object, AllocError>
     let symbols = symbols(alloc)?;
     let relocs = relocs(alloc)?;
     let slots = [reloc(5, 0x3010, 1, 0), reloc(5, 0x3018, 1, 0)];
-    let plt_relocs = Relocs::from_slice(alloc, &slots)?;
-    let relr = Places::from_slice(alloc, &[0x3040, 0x3088])?;
+    let slots = Vec::from_slice(alloc, &slots)?;
+    let places = Vec::from_slice(alloc, &[0x3040, 0x3088])?;
     Ok(Object {
         kind: Kind::Dyn,
         entry: 0,
         soname: None,
-        needed: Names::new(alloc),
+        needed: SharedList::new(alloc, Vec::new(alloc))?,
         segments,
         symbols,
         first_exported: 1,
         has_versym: false,
-        verdefs: Sequence::new(alloc),
-        verneeds: Sequence::new(alloc),
+        verdefs: SharedList::new(alloc, Vec::new(alloc))?,
+        verneeds: SharedList::new(alloc, Vec::new(alloc))?,
         relocs,
-        plt_relocs,
+        plt_relocs: SharedList::new(alloc, slots)?,
         pltgot: Some(0x3000),
         preinit: None,
         init: None,
@@ -100,15 +100,15 @@ fn object(alloc: Global) -> Result<Object, AllocError>
             bind_now: false,
             nodelete: false,
         },
-        relr,
+        relr: SharedList::new(alloc, places)?,
         dynamic: 0,
     })
 }
 
-fn segments(alloc: Global) -> Result<Segments, AllocError>
+fn segments(alloc: Global) -> Result<SharedList<Segment>, AllocError>
     ensures { IfOk result (λ s. s ≡ example.segments) }
 {
-    let mut segments = Segments::new(alloc);
+    let mut segments = Vec::new(alloc);
     segments.push(Segment {
         vaddr: 0x1000,
         memsz: 24,
@@ -128,7 +128,7 @@ fn segments(alloc: Global) -> Result<Segments, AllocError>
         align: 0x1000,
         bytes: data_bytes(alloc)?,
     })?;
-    Ok(segments)
+    SharedList::new(alloc, segments)
 }
 
 fn data_bytes(alloc: Global) -> Result<Bytes, AllocError>
@@ -144,14 +144,14 @@ fn data_bytes(alloc: Global) -> Result<Bytes, AllocError>
     )
 }
 
-fn symbols(alloc: Global) -> Result<Symbols, AllocError>
+fn symbols(alloc: Global) -> Result<SharedSymbols, AllocError>
     ensures { IfOk result (λ s. s ≡ example.symbols) }
 {
     let mut symbols = Symbols::new(alloc);
     symbols.push(symbol(alloc, 0)?)?;
     symbols.push(symbol(alloc, 8)?)?;
     symbols.push(symbol(alloc, 5)?)?;
-    Ok(symbols)
+    symbols.into_shared(alloc)
 }
 
 fn symbol(alloc: Global, size: u64) -> Result<Symbol, AllocError>
@@ -168,10 +168,10 @@ fn symbol(alloc: Global, size: u64) -> Result<Symbol, AllocError>
     })
 }
 
-fn relocs(alloc: Global) -> Result<Relocs, AllocError>
+fn relocs(alloc: Global) -> Result<SharedList<Reloc>, AllocError>
     ensures { IfOk result (λ r. r ≡ example.relocs) }
 {
-    Relocs::from_slice(
+    let relocs = Vec::from_slice(
         alloc,
         &[
             reloc(2, 0x3020, 1, -8),
@@ -185,7 +185,8 @@ fn relocs(alloc: Global) -> Result<Relocs, AllocError>
             reloc(11, 0x3078, 1, 0),
             reloc(2, 0x3080, 1, 1),
         ],
-    )
+    )?;
+    SharedList::new(alloc, relocs)
 }
 
 fn reloc(kind: u32, place: u64, symbol: u32, addend: i64) -> Reloc

@@ -1,29 +1,34 @@
 //! Symbols, versions and names, and which definition of one object a reference takes.
 
-use crate::objects::{empty_object, function, push_symbol};
-use ld_base::{DlFault, Name, Object, Symbol, Verdef, Want, field16, field32, field64, pick};
+use crate::objects::{function, object_with, push_symbol};
+use ld_base::{
+    DlFault, Name, Object, Symbol, Symbols, Verdef, Verdefs, Want, field16, field32, field64, pick,
+};
 use std::alloc::Global;
 use test_file::{Fault, Words, show, show_some};
 
-/// An object that stays from line to line.
+/// What lines said of an object so far.
 #[derive(Drop)]
 pub struct Library {
-    object: Object,
+    /// The entries of the versym table, one a symbol.
+    entries: Vec<u16>,
+    versions: Vec<Verdef>,
 }
 
 impl Library {
     pub fn new(alloc: Global) -> Self {
-        let mut object = empty_object(alloc);
-        object.has_versym = true;
-        Library { object }
+        Library {
+            entries: Vec::new(alloc),
+            versions: Vec::new(alloc),
+        }
     }
 
     /// Puts a function `f` at the end, whose entry of the versym table is this. Gives how many symbols
     /// there are.
     pub fn symbol(&mut self, alloc: Global, words: &mut Words) -> Result<String, Fault> {
         let version = number16(words)?;
-        push_symbol(&mut self.object.symbols, function(alloc, 1, version)?)?;
-        show(alloc, self.object.symbols.len())
+        self.entries.push(version)?;
+        show(alloc, self.entries.len())
     }
 
     /// Defines a version: its index, its flags and its name. Says whether it names the object itself.
@@ -32,14 +37,15 @@ impl Library {
         let name = name_in(alloc, words)?;
         let verdef = Verdef { index, flags, name };
         let is_base = verdef.is_base();
-        self.object.verdefs.push(verdef)?;
+        self.versions.push(verdef)?;
         show(alloc, is_base)
     }
 
     /// The name of a version's index.
     pub fn version_name(&self, alloc: Global, words: &mut Words) -> Result<String, Fault> {
         let index = number16(words)?;
-        match self.object.version_name(index) {
+        let object = self.object(alloc)?;
+        match object.version_name(index) {
             Some(name) => Ok(format!(in alloc; "{name}")?),
             None => Ok(String::from_str(alloc, "none")?),
         }
@@ -49,8 +55,32 @@ impl Library {
     pub fn pick(&self, alloc: Global, words: &mut Words) -> Result<String, Fault> {
         let name = words.text()?;
         let want = want(alloc, words)?;
-        let picked = pick(&self.object, name.as_bytes(), &want);
-        show_some(alloc, picked)
+        let object = self.object(alloc)?;
+        show_some(alloc, pick(&object, name.as_bytes(), &want))
+    }
+
+    fn symbols(&self, alloc: Global) -> Result<Symbols, Fault> {
+        let mut symbols = Symbols::new(alloc);
+        for version in self.entries.as_slice() {
+            push_symbol(&mut symbols, function(alloc, 1, *version)?)?;
+        }
+        Ok(symbols)
+    }
+
+    fn verdefs(&self, alloc: Global) -> Result<Verdefs, Fault> {
+        let mut verdefs = Verdefs::new(alloc);
+        for verdef in self.versions.as_slice() {
+            let name = Name::new(alloc, verdef.name.as_bytes())?;
+            verdefs.push(Verdef { name, ..*verdef })?;
+        }
+        Ok(verdefs)
+    }
+
+    fn object(&self, alloc: Global) -> Result<Object, Fault> {
+        let symbols = self.symbols(alloc)?;
+        let mut object = object_with(alloc, symbols, self.verdefs(alloc)?)?;
+        object.has_versym = true;
+        Ok(object)
     }
 }
 

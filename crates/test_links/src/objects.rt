@@ -2,27 +2,35 @@
 
 use crate::lists::push_serials;
 use ld_base::{
-    Added, HartId, HashTable, Kind, Loaded, Name, Names, ObjFlags, Object, Places, Relocs,
-    Segments, Serial, Serials, State, Symbol, Symbols, Verdefs, Verneeds,
+    Added, HartId, HashTable, Kind, Loaded, Name, ObjFlags, Object, Serial, Serials, SharedList,
+    State, Symbol, Symbols, Verdefs,
 };
-use std::alloc::Global;
+use std::alloc::{AllocError, Global};
 use test_file::{Fault, Words, whole};
 
-/// A library without tables.
-pub fn empty_object(alloc: Global) -> Object {
-    Object {
+fn nothing<T: Drop>(alloc: Global) -> Result<SharedList<T>, AllocError> {
+    SharedList::new(alloc, Vec::new(alloc))
+}
+
+/// A library with these symbols and versions.
+pub fn object_with(
+    alloc: Global,
+    symbols: Symbols,
+    verdefs: Verdefs,
+) -> Result<Object, AllocError> {
+    Ok(Object {
         kind: Kind::Dyn,
         entry: 0,
         soname: None,
-        needed: Names::new(alloc),
-        segments: Segments::new(alloc),
-        symbols: Symbols::new(alloc),
+        needed: nothing(alloc)?,
+        segments: nothing(alloc)?,
+        symbols: symbols.into_shared(alloc)?,
         first_exported: 1,
         has_versym: false,
-        verdefs: Verdefs::new(alloc),
-        verneeds: Verneeds::new(alloc),
-        relocs: Relocs::new(alloc),
-        plt_relocs: Relocs::new(alloc),
+        verdefs: verdefs.into_shared(alloc)?,
+        verneeds: nothing(alloc)?,
+        relocs: nothing(alloc)?,
+        plt_relocs: nothing(alloc)?,
         pltgot: None,
         preinit: None,
         init: None,
@@ -36,9 +44,9 @@ pub fn empty_object(alloc: Global) -> Object {
             bind_now: false,
             nodelete: false,
         },
-        relr: Places::new(alloc),
+        relr: nothing(alloc)?,
         dynamic: 0,
-    }
+    })
 }
 
 /// A name, where `-` is none.
@@ -85,12 +93,12 @@ fn state(word: &str) -> Result<State, Fault> {
     }
 }
 
-/// An object without what takes memory.
-fn bare(alloc: Global, serial: Serial) -> Loaded {
-    Loaded {
+/// An object that has nothing.
+fn bare(alloc: Global, serial: Serial) -> Result<Loaded, AllocError> {
+    Ok(Loaded {
         serial,
         path: Name::from(Vec::new(alloc)),
-        object: empty_object(alloc),
+        object: object_with(alloc, Symbols::new(alloc), Verdefs::new(alloc))?,
         table: HashTable {
             gnu: None,
             sysv: None,
@@ -100,7 +108,15 @@ fn bare(alloc: Global, serial: Serial) -> Loaded {
         module: None,
         deep: false,
         found: Serials::new(alloc),
-    }
+    })
+}
+
+/// The null symbol and the function `f`, defined in this section or needed.
+fn symbols(alloc: Global, section: u16) -> Result<Symbols, Fault> {
+    let mut symbols = Symbols::new(alloc);
+    push_symbol(&mut symbols, function(alloc, 0, 0)?)?;
+    push_symbol(&mut symbols, function(alloc, section, 0)?)?;
+    Ok(symbols)
 }
 
 fn fill(alloc: Global, loaded: &mut Loaded, words: &mut Words) -> Result<(), Fault> {
@@ -110,15 +126,15 @@ fn fill(alloc: Global, loaded: &mut Loaded, words: &mut Words) -> Result<(), Fau
     loaded.deep = words.text().unwrap_or("flat") == "deep";
     push_serials(&mut loaded.found, words.text().unwrap_or("-"))?;
     let section = u16::from(words.text().unwrap_or("needs") == "defines");
-    push_symbol(&mut loaded.object.symbols, function(alloc, 0, 0)?)?;
-    push_symbol(&mut loaded.object.symbols, function(alloc, section, 0)?)
+    loaded.object.symbols = symbols(alloc, section)?.into_shared(alloc)?;
+    Ok(())
 }
 
 /// Puts an object behind these: of its serial, its path, its own name or `-`, and its state; and, where
 /// the line tells more, `deep` or `flat`, the serials that its names found, and whether it `defines` the
 /// function `f`, its symbol 1, or `needs` it.
 pub fn add_object(alloc: Global, objects: &mut Added, words: &mut Words) -> Result<(), Fault> {
-    let mut loaded = bare(alloc, Serial::new(words.number()?));
+    let mut loaded = bare(alloc, Serial::new(words.number()?))?;
     match fill(alloc, &mut loaded, words) {
         Ok(()) => Ok(objects.push(loaded)?),
         Err(fault) => Err(fault),

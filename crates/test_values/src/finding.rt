@@ -2,8 +2,8 @@
 //! of index 2.
 
 use ld_base::{
-    GnuPart, HashTable, Ints, Kind, Longs, Name, Names, ObjFlags, Object, Places, Relocs, Segments,
-    Symbol, Symbols, SysvPart, Verdefs, Verneeds, Want, pick,
+    GnuPart, HashTable, Kind, Name, ObjFlags, Object, SharedList, SharedSymbols, Symbol, Symbols,
+    SysvPart, Want, pick,
 };
 use std::alloc::{AllocError, Global};
 use sym_lookup::Find;
@@ -18,15 +18,15 @@ pub fn picked(alloc: Global, name: &str) -> Result<String, Fault> {
 /// What a GNU table gives for a name: a word of the bloom filter, a bucket and two chain words.
 pub fn in_gnu(alloc: Global, words: &mut Words) -> Result<String, Fault> {
     let name = words.text()?;
-    let bloom = Longs::from_slice(alloc, &[words.number()?])?;
-    let buckets = Ints::from_slice(alloc, &[words.number32()?])?;
-    let chain = [words.number32()?, words.number32()?];
+    let bloom = Vec::from_slice(alloc, &[words.number()?])?;
+    let buckets = Vec::from_slice(alloc, &[words.number32()?])?;
+    let chain = Vec::from_slice(alloc, &[words.number32()?, words.number32()?])?;
     let gnu = GnuPart {
         symoffset: 1,
         shift: 6,
-        bloom,
-        buckets,
-        chain: Ints::from_slice(alloc, &chain)?,
+        bloom: SharedList::new(alloc, bloom)?,
+        buckets: SharedList::new(alloc, buckets)?,
+        chain: SharedList::new(alloc, chain)?,
     };
     found(alloc, Some(gnu), None, name)
 }
@@ -34,11 +34,12 @@ pub fn in_gnu(alloc: Global, words: &mut Words) -> Result<String, Fault> {
 /// What a System V table gives for a name: a bucket and three links.
 pub fn in_sysv(alloc: Global, words: &mut Words) -> Result<String, Fault> {
     let name = words.text()?;
-    let buckets = Ints::from_slice(alloc, &[words.number32()?])?;
+    let buckets = Vec::from_slice(alloc, &[words.number32()?])?;
     let chain = [words.number32()?, words.number32()?, words.number32()?];
+    let chain = Vec::from_slice(alloc, &chain)?;
     let sysv = SysvPart {
-        buckets,
-        chain: Ints::from_slice(alloc, &chain)?,
+        buckets: SharedList::new(alloc, buckets)?,
+        chain: SharedList::new(alloc, chain)?,
     };
     found(alloc, None, Some(sysv), name)
 }
@@ -66,12 +67,16 @@ fn function(alloc: Global, name: &[u8], shndx: u16) -> Result<Symbol, AllocError
     })
 }
 
-fn symbols(alloc: Global) -> Result<Symbols, AllocError> {
+fn symbols(alloc: Global) -> Result<SharedSymbols, AllocError> {
     let mut symbols = Symbols::new(alloc);
     symbols.push(function(alloc, b"", 0)?)?;
     symbols.push(function(alloc, b"f", 1)?)?;
     symbols.push(function(alloc, b"g", 1)?)?;
-    Ok(symbols)
+    symbols.into_shared(alloc)
+}
+
+fn nothing<T: Drop>(alloc: Global) -> Result<SharedList<T>, AllocError> {
+    SharedList::new(alloc, Vec::new(alloc))
 }
 
 fn exporter(alloc: Global) -> Result<Object, AllocError> {
@@ -79,15 +84,15 @@ fn exporter(alloc: Global) -> Result<Object, AllocError> {
         kind: Kind::Dyn,
         entry: 0,
         soname: None,
-        needed: Names::new(alloc),
-        segments: Segments::new(alloc),
+        needed: nothing(alloc)?,
+        segments: nothing(alloc)?,
         symbols: symbols(alloc)?,
         first_exported: 1,
         has_versym: false,
-        verdefs: Verdefs::new(alloc),
-        verneeds: Verneeds::new(alloc),
-        relocs: Relocs::new(alloc),
-        plt_relocs: Relocs::new(alloc),
+        verdefs: nothing(alloc)?,
+        verneeds: nothing(alloc)?,
+        relocs: nothing(alloc)?,
+        plt_relocs: nothing(alloc)?,
         pltgot: None,
         preinit: None,
         init: None,
@@ -101,7 +106,7 @@ fn exporter(alloc: Global) -> Result<Object, AllocError> {
             bind_now: false,
             nodelete: false,
         },
-        relr: Places::new(alloc),
+        relr: nothing(alloc)?,
         dynamic: 0,
     })
 }

@@ -4,7 +4,7 @@ ghost use Rattle.std.specs.Prelude.{◌≡◌, ◌++◌, ◌<◌, IfOk, replicat
 ghost use Rattle.asm_write.specs.HashBuild.Hashed.{bucket_count, bloom_with, ends_bucket, chain_of, gnu_of, sysv_of};
 
 use crate::hash_build::chains::chains_of;
-use ld_base::{GnuPart, SysvPart};
+use ld_base::{GnuPart, SharedList, SysvPart};
 use std::alloc::{AllocError, Global};
 
 /// How many buckets so many symbols have.
@@ -66,9 +66,9 @@ pub fn gnu_of(alloc: Global, first: u32, hashes: &[u32]) -> Result<GnuPart, Allo
     Ok(GnuPart {
         symoffset: first,
         shift: 6,
-        bloom: bloom.into(),
-        buckets: chains.buckets.into(),
-        chain: chain.into(),
+        bloom: SharedList::new(alloc, bloom)?,
+        buckets: SharedList::new(alloc, chains.buckets)?,
+        chain: SharedList::new(alloc, chain)?,
     })
 }
 
@@ -95,7 +95,7 @@ pub fn sysv_of(alloc: Global, first: u32, hashes: &[u32]) -> Result<SysvPart, Al
     let chains = chains_of(alloc, first, count, hashes)?;
     let chain = links_behind(alloc, first, &chains.links)?;
     Ok(SysvPart {
-        buckets: chains.buckets.into(),
-        chain: chain.into(),
+        buckets: SharedList::new(alloc, chains.buckets)?,
+        chain: SharedList::new(alloc, chain)?,
     })
 }

@@ -49,8 +49,8 @@ fn sysv_words(alloc: Global, bytes: &[u8]) -> Result<Option<SysvPart>, AllocErro
         return Ok(None);
     }
     Ok(Some(SysvPart {
-        buckets: read_ints(alloc, bytes, 8, buckets)?,
-        chain: read_ints(alloc, bytes, 8 + 4 * buckets, chain)?,
+        buckets: read_ints(alloc, bytes, 8, buckets)?.into_shared(alloc)?,
+        chain: read_ints(alloc, bytes, 8 + 4 * buckets, chain)?.into_shared(alloc)?,
     }))
 }
 
@@ -121,9 +121,9 @@ fn gnu_words(alloc: Global, bytes: &[u8]) -> Result<Option<GnuPart>, AllocError>
     Ok(Some(GnuPart {
         symoffset,
         shift: field32(bytes, 12),
-        bloom: read_longs(alloc, bytes, 16, bloom)?,
-        buckets,
-        chain,
+        bloom: read_longs(alloc, bytes, 16, bloom)?.into_shared(alloc)?,
+        buckets: buckets.into_shared(alloc)?,
+        chain: chain.into_shared(alloc)?,
     }))
 }
 

@@ -4,7 +4,7 @@ ghost use Rattle.std.specs.Prelude.{◌≡◌, IfOk};
 
 use std::alloc::{AllocError, Global};
 
-/// A record that can be had once more, in memory of its own.
+/// A record that can be had once more, in memory of its own but for lists that no longer change.
 pub trait Copied: Drop {
     /// The same value once more.
     ///

@@ -1,7 +1,7 @@
 //! Copies of names and of lists.
 
 use crate::record_copies::Copied;
-use ld_base::{Name, Sequence, Symbols};
+use ld_base::{Name, Sequence};
 use std::alloc::{AllocError, Global};
 
 impl Copied for Name {
@@ -24,17 +24,6 @@ impl<T: Copied> Copied for Sequence<T> {
         let mut copies = Sequence::new(alloc);
         for item in self.as_slice() {
             copies.push(item.copy(alloc)?)?;
-        }
-        Ok(copies)
-    }
-}
-
-impl Copied for Symbols {
-    fn copy(&self, alloc: Global) -> Result<Self, AllocError> {
-        let mut copies = Symbols::new(alloc);
-        let symbols = self.as_slice();
-        for symbol in symbols {
-            copies.push(symbol.copy(alloc)?)?;
         }
         Ok(copies)
     }

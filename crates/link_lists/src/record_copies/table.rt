@@ -1,28 +1,25 @@
-//! Copies of hash tables.
+//! Copies of hash tables, whose words are shared.
 
 use crate::record_copies::Copied;
-use ld_base::{GnuPart, HashTable, Sequence, SysvPart};
+use ld_base::{GnuPart, HashTable, SysvPart};
 use std::alloc::{AllocError, Global};
 
 impl Copied for GnuPart {
-    fn copy(&self, alloc: Global) -> Result<Self, AllocError> {
-        let bloom = Sequence::from_slice(alloc, self.bloom.as_slice())?;
-        let buckets = Sequence::from_slice(alloc, self.buckets.as_slice())?;
+    fn copy(&self, _alloc: Global) -> Result<Self, AllocError> {
         Ok(GnuPart {
-            bloom,
-            buckets,
-            chain: Sequence::from_slice(alloc, self.chain.as_slice())?,
+            bloom: self.bloom.share()?,
+            buckets: self.buckets.share()?,
+            chain: self.chain.share()?,
             ..*self
         })
     }
 }
 
 impl Copied for SysvPart {
-    fn copy(&self, alloc: Global) -> Result<Self, AllocError> {
-        let buckets = Sequence::from_slice(alloc, self.buckets.as_slice())?;
+    fn copy(&self, _alloc: Global) -> Result<Self, AllocError> {
         Ok(SysvPart {
-            buckets,
-            chain: Sequence::from_slice(alloc, self.chain.as_slice())?,
+            buckets: self.buckets.share()?,
+            chain: self.chain.share()?,
         })
     }
 }

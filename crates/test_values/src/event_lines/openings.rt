@@ -3,10 +3,10 @@
 
 use crate::event_lines::parts::{name_of, number};
 use ld_base::{
-    Added, HashTable, Kind, Loaded, Name, Names, ObjFlags, Object, Places, Relocs, Segments,
-    Sequence, Serial, Serials, State, Symbols, TlsPlace,
+    Added, HashTable, Kind, Loaded, Name, ObjFlags, Object, Serial, Serials, SharedList, State,
+    Symbols, TlsPlace,
 };
-use std::alloc::Global;
+use std::alloc::{AllocError, Global};
 use test_file::Fault;
 
 /// New objects with commas between, or `-`.
@@ -37,7 +37,7 @@ fn push_entry(alloc: Global, added: &mut Added, entry: &str) -> Result<(), Fault
         Some((base, module)) => (number(base)?, Some(module_of(module)?)),
     };
     let path = name_of(alloc, path)?;
-    added.push(loaded(alloc, serial, path, base, module))?;
+    added.push(loaded(alloc, serial, path, base, module)?)?;
     Ok(())
 }
 
@@ -61,11 +61,11 @@ fn loaded(
     path: Name,
     base: u64,
     module: Option<TlsPlace>,
-) -> Loaded {
-    Loaded {
+) -> Result<Loaded, AllocError> {
+    Ok(Loaded {
         serial,
         path,
-        object: empty(alloc),
+        object: empty(alloc)?,
         table: HashTable {
             gnu: None,
             sysv: None,
@@ -75,24 +75,28 @@ fn loaded(
         module,
         deep: false,
         found: Serials::new(alloc),
-    }
+    })
+}
+
+fn nothing<T: Drop>(alloc: Global) -> Result<SharedList<T>, AllocError> {
+    SharedList::new(alloc, Vec::new(alloc))
 }
 
 /// An object that has nothing.
-fn empty(alloc: Global) -> Object {
-    Object {
+fn empty(alloc: Global) -> Result<Object, AllocError> {
+    Ok(Object {
         kind: Kind::Dyn,
         entry: 0,
         soname: None,
-        needed: Names::new(alloc),
-        segments: Segments::new(alloc),
-        symbols: Symbols::new(alloc),
+        needed: nothing(alloc)?,
+        segments: nothing(alloc)?,
+        symbols: Symbols::new(alloc).into_shared(alloc)?,
         first_exported: 1,
         has_versym: false,
-        verdefs: Sequence::new(alloc),
-        verneeds: Sequence::new(alloc),
-        relocs: Relocs::new(alloc),
-        plt_relocs: Relocs::new(alloc),
+        verdefs: nothing(alloc)?,
+        verneeds: nothing(alloc)?,
+        relocs: nothing(alloc)?,
+        plt_relocs: nothing(alloc)?,
         pltgot: None,
         preinit: None,
         init: None,
@@ -106,7 +110,7 @@ fn empty(alloc: Global) -> Object {
             bind_now: false,
             nodelete: false,
         },
-        relr: Places::new(alloc),
+        relr: nothing(alloc)?,
         dynamic: 0,
-    }
+    })
 }
