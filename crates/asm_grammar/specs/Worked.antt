@@ -18,24 +18,52 @@ abbrev pub worked : List (List ℕ × Result Line AsmCause)
 worked =
     (codes "", Ok (record { label = None; statement = None })) ∷
     (codes " # note", Ok (record { label = None; statement = None })) ∷
-    (codes "at: # note", Ok (record { label = Some (codes "at"); statement = None })) ∷
-    (codes "at: addi a0, sp, -0x10", Ok (record { label = Some (codes "at");
-      statement = Some (statements.Instruction (the.Imm imms.Addi 10 2 (record { is_negative = true; magnitude = Some 16 }))) })) ∷
-    (codes "sd ra, 8 ( sp )", Ok (record { label = None;
-      statement = Some (statements.Instruction (the.Store stores.Sd 2 1 (record { is_negative = false; magnitude = Some 8 }))) })) ∷
-    (codes "sc.d.aq a0, a1, (a2)", Ok (record { label = None;
-      statement = Some (statements.Instruction (the.Sc (record { width = widths.Doubleword; aq = true; rl = false }) 10 12 11)) })) ∷
-    (codes "jalr ra, 8(t0)", Ok (record { label = None;
-      statement = Some (statements.Instruction (the.Jalr 1 5 (record { is_negative = false; magnitude = Some 8 }))) })) ∷
+    (codes "at: # note", Ok (record { label = Some (codes "at"); statement = None })) ∷ (
+      codes "at: addi a0, sp, -0x10",
+      Ok (record {
+        label = Some (codes "at");
+        statement = Some (statements.Instruction (the.Imm imms.Addi 10 2 (record { is_negative = true; magnitude = Some 16 })));
+      }),
+    ) ∷ (
+      codes "sd ra, 8 ( sp )",
+      Ok (record {
+        label = None;
+        statement = Some (statements.Instruction (the.Store stores.Sd 2 1 (record { is_negative = false; magnitude = Some 8 })));
+      }),
+    ) ∷ (
+      codes "sc.d.aq a0, a1, (a2)",
+      Ok (record {
+        label = None;
+        statement = Some (statements.Instruction (the.Sc (record { width = widths.Doubleword; aq = true; rl = false }) 10 12 11));
+      }),
+    ) ∷ (
+      codes "jalr ra, 8(t0)",
+      Ok (record {
+        label = None;
+        statement = Some (statements.Instruction (the.Jalr 1 5 (record { is_negative = false; magnitude = Some 8 })));
+      }),
+    ) ∷
     (codes "beq a0, x0, at", Ok (record { label = None; statement = Some (statements.Instruction (the.Branch branches.Beq 10 0 (codes "at"))) })) ∷
     (codes "call f#g", Ok (record { label = None; statement = Some (statements.Instruction (the.Call (codes "f"))) })) ∷
-    (codes ".asciz \"a#b\" # c", Ok (record { label = None; statement = Some (statements.Directive (directives.Asciz (codes "a#b"))) })) ∷
-    (codes ".dword p + 8", Ok (record { label = None;
-      statement = Some (statements.Directive (directives.Dword (doublewords.Address (codes "p") (record { is_negative = false; magnitude = Some 8 })))) })) ∷
-    (codes ".need f@V so weak", Ok (record { label = None;
-      statement = Some (statements.Directive (directives.Need (record { name = codes "f"; version = codes "V"; file = codes "so"; is_weak = true }))) })) ∷
-    (codes ".flags now", Ok (record { label = None;
-      statement = Some (statements.Directive (directives.Flags (record { symbolic = false; bind_now = true; nodelete = false }))) })) ∷
+    (codes ".asciz \"a#b\" # c", Ok (record { label = None; statement = Some (statements.Directive (directives.Asciz (codes "a#b"))) })) ∷ (
+      codes ".dword p + 8",
+      Ok (record {
+        label = None;
+        statement = Some (statements.Directive (directives.Dword (doublewords.Address (codes "p") (record { is_negative = false; magnitude = Some 8 }))));
+      }),
+    ) ∷ (
+      codes ".need f@V so weak",
+      Ok (record {
+        label = None;
+        statement = Some (statements.Directive (directives.Need (record { name = codes "f"; version = codes "V"; file = codes "so"; is_weak = true })));
+      }),
+    ) ∷ (
+      codes ".flags now",
+      Ok (record {
+        label = None;
+        statement = Some (statements.Directive (directives.Flags (record { symbolic = false; bind_now = true; nodelete = false })));
+      }),
+    ) ∷
     (codes ".align 16", Ok (record { label = None; statement = Some (statements.Directive (directives.Align 16)) })) ∷
     (codes ".align 3", Err causes.BadOperand) ∷
     (codes ".flags", Err causes.BadOperand) ∷

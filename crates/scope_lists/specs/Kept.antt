@@ -58,7 +58,7 @@ pub record IsScope (s : Seen) (global : List Searched) (o : Loaded) (found : Kep
 pub record AreScopes (s : Seen) (kept : KeptScopes) : Type 0 where
   pub global : kept.global.items ≡ map (entry_in (serials_of s)) s.global
   pub each : (place : ℕ) (o : Loaded) (found : KeptScope) →
-    slice_get s.objects place ≡ Some o → kept_at kept place ≡ Some found → IsScope s kept.global.items o found
+      slice_get s.objects place ≡ Some o → kept_at kept place ≡ Some found → IsScope s kept.global.items o found
 
 -- of those objects of which one was kept one is kept
 abbrev pub KeepsAll : KeptScopes → KeptScopes → Type 0
