@@ -1,7 +1,8 @@
 //! Lists that the linker keeps beside its journal: grants, edges, late blocks, what an opening notes.
 //!
 //! Each changes as the history's state does (`history_state`), and none takes memory where room was made
-//! before. [`Copied`] copies the records that an event and the state both hold.
+//! before. [`Copied`] copies the records that an event and the state both hold, and [`LatestObjects`] has
+//! records of one path share memory.
 #![tactic(auto)]
 
 mod held_edges;
@@ -10,6 +11,7 @@ mod link_pending;
 mod load_record;
 mod open_flags;
 mod record_copies;
+mod record_shares;
 
 pub use held_edges::HeldEdges;
 pub use late_blocks::LateBlocks;
@@ -17,3 +19,4 @@ pub use link_pending::{OpenGrants, Unfinished};
 pub use load_record::LoadRecord;
 pub use open_flags::{are_flags, is_deepbind, is_global, is_nodelete, is_noload, is_now};
 pub use record_copies::Copied;
+pub use record_shares::LatestObjects;
