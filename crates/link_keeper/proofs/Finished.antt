@@ -14,7 +14,7 @@ use Rattle.word_rule.specs.declared.view.Fate.TheVariants.{Lost as FateLost, Won
 use Rattle.word_rule.specs.declared.view.HartView.{HartView}
 use Rattle.word_rule.specs.declared.view.KeeperView.{KeeperView}
 use Rattle.word_rule.specs.declared.view.Row.{Row}
-use Rattle.word_rule.specs.KeeperSteps.{AreJoinedOnce, HasEnded, HasTakenAll, TellsAsk, awaited_if, settled_as}
+use Rattle.word_rule.specs.KeeperSteps.{AreDecided, AreJoinedOnce, HasEnded, HasTakenAll, TellsAsk, awaited_if, settled_as}
 use Rattle.word_rule.specs.Layout.{harts_at_most}
 use Rattle.word_rule.specs.Lemmas.Heeding.{row_here}
 use Rattle.word_rule.specs.Views.{BeginsWith, IsLong, exchanges_of, row_of}
@@ -36,7 +36,7 @@ use Rattle.kept_words.specs.Keeping.{AlikeKept, IsAlike, settled_view}
 use Rattle.kept_words.specs.Over.{FatesAreExchanges, IsOver, OverIsWhole, TrailIsTrue, TrailsAreTrue}
 use Rattle.kept_words.specs.Staying.{IsGrantEvent, fated_in}
 use Rattle.link_keeper.specs.Finishing.{HasCome, IsExchangeOf, RunIsOver, TrailIsClosed, knows}
-use Rattle.link_keeper.specs.Joining.{AreDecided, HasEndedThere, HaveTakenAll, IsFront, SettlesEnded, joins}
+use Rattle.link_keeper.specs.Joining.{HasEndedThere, HaveTakenAll, IsFront, SettlesEnded, joins}
 use Rattle.link_keeper.specs.Keeping.{KeepsState, KeepsView}
 use Rattle.link_keeper.specs.Settling.{SettlesOne}
 use Rattle.link_keeper.proofs.Fitting.{none_more}

@@ -4,9 +4,8 @@ use Rattle.history_event.specs.declared.event.Event.{Event}
 use Rattle.word_rule.specs.declared.entry.Grant.{Grant}
 use Rattle.word_rule.specs.declared.view.HartView.{HartView}
 use Rattle.word_rule.specs.declared.view.KeeperView.{KeeperView}
-use Rattle.word_rule.specs.Allowed.{IsDecided, IsSlot}
 use Rattle.word_rule.specs.KeeperSteps.{HasEnded, HasTakenAll}
-use Rattle.word_rule.specs.Views.{BeginsWith, kept_at, row_of}
+use Rattle.word_rule.specs.Views.{BeginsWith, row_of}
 use Rattle.hart_moves.specs.Follows.{HasNone}
 use Rattle.link_keeper.specs.Finishing.{knows}
 use Rattle.link_keeper.specs.Settling.{HasSettled}
@@ -33,7 +32,3 @@ pub record SettlesEnded (asked : ℕ) (k l : KeeperView) : Type 0 where
 -- each of the first harts has taken all that was issued to it
 abbrev pub HaveTakenAll : ℕ → KeeperView → Type 0
 HaveTakenAll harts k = (m : ℕ) (j : HartView) → m < harts → HasEnded k m j → (state : ℕ) × HasTakenAll k m state j
-
--- and what each slot holds is known
-abbrev pub AreDecided : KeeperView → Type 0
-AreDecided k = (d : ℕ) → IsSlot (kept_at k) d → IsDecided (kept_at k) (row_of k) d

@@ -3,13 +3,13 @@
 ghost use Rattle.std.specs.Prelude.{◌≡◌, ℕ, ◌<◌, ◌≤◌, false, length, map, None, Some, All};
 ghost use Rattle.std.specs.List.{slice_get};
 ghost use Rattle.word_rule.specs.declared.view.HartView.{HartView};
-ghost use Rattle.word_rule.specs.KeeperSteps.{AreJoinedOnce, HasEnded, HasTakenAll};
+ghost use Rattle.word_rule.specs.KeeperSteps.{AreDecided, AreJoinedOnce, HasEnded, HasTakenAll};
 ghost use Rattle.word_rule.specs.Views.{row_of};
 ghost use Rattle.word_steps.specs.Knowing.{with_joined};
 ghost use Rattle.hart_linker.specs.Between.{HasHeard};
 ghost use Rattle.kept_words.specs.Over.{IsOver};
 ghost use Rattle.link_keeper.specs.Finishing.{RunIsOver, knows};
-ghost use Rattle.link_keeper.specs.Joining.{AreDecided, HasEndedThere, HaveTakenAll, IsFront, SettlesEnded, joins};
+ghost use Rattle.link_keeper.specs.Joining.{HasEndedThere, HaveTakenAll, IsFront, SettlesEnded, joins};
 ghost use Rattle.link_keeper.specs.Keeping.{KeepsState, KeepsView};
 ghost use Rattle.link_keeper.specs.Settling.{SettlesOne};
 

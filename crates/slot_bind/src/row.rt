@@ -2,9 +2,8 @@
 
 ghost use Rattle.std.specs.Prelude.{◌≡◌, ◌<◌, ℕ, nat_le};
 ghost use Rattle.word_rule.specs.declared.view.HartView.{HartView};
-ghost use Rattle.word_rule.specs.KeeperSteps.{AreJoinedOnce, HasEnded, HasTakenAll, awaited_if, with_row};
-ghost use Rattle.word_rule.specs.Allowed.{IsDecided, IsSlot};
-ghost use Rattle.word_rule.specs.Views.{IsLong, kept_at, row_of, with_field};
+ghost use Rattle.word_rule.specs.KeeperSteps.{AreDecided, AreJoinedOnce, HasEnded, HasTakenAll, awaited_if, with_row};
+ghost use Rattle.word_rule.specs.Views.{IsLong, row_of, with_field};
 ghost use Rattle.word_steps.specs.Views.{IsResting};
 ghost use Rattle.slot_bind.specs.Grants.{MayPost, grant_of, posted};
 ghost use Rattle.slot_bind.specs.Rows.{IsWaiting, MayHand, handed_over, row_with};
@@ -20,7 +19,7 @@ pub fn calling<J: Naming>(memory: &Memory<J>, keeper: &mut KeeperSeat<J>, hart: 
     requires { hart < 16 }
     ensures known { keeper.new ≡ awaited_if hart result keeper.old }
     ensures ended { (state : ℕ) × (result ≡ nat_le 8 state) × ((h : HartView) → HasEnded keeper.old hart h → HasTakenAll keeper.old hart state h) }
-    ensures slots { (d : ℕ) → IsSlot (kept_at keeper.old) d → IsDecided (kept_at keeper.old) (row_of keeper.old) d }
+    ensures slots { AreDecided keeper.old }
     ensures joined { AreJoinedOnce keeper.old }
     ensures long { IsLong keeper.old }
 {
@@ -32,7 +31,7 @@ fn await_row<J: Naming>(memory: &Memory<J>, keeper: &mut KeeperSeat<J>, hart: u6
     requires { hart < 16 }
     ensures known { keeper.new ≡ awaited_if hart (nat_le 8 result) keeper.old }
     ensures ended { (h : HartView) → HasEnded keeper.old hart h → HasTakenAll keeper.old hart result h }
-    ensures slots { (d : ℕ) → IsSlot (kept_at keeper.old) d → IsDecided (kept_at keeper.old) (row_of keeper.old) d }
+    ensures slots { AreDecided keeper.old }
     ensures joined { AreJoinedOnce keeper.old }
     ensures long { IsLong keeper.old }
 {

@@ -2,6 +2,7 @@
 
 ghost use Rattle.std.specs.Prelude.{◌≡◌, ◌<◌, ◌%◌, ℕ, None, Some};
 ghost use Rattle.rv_hart.specs.declared.bus.Item.{Item};
+ghost use Rattle.rv_hart.specs.Buses.{HasValue, Permits, may_read};
 ghost use Rattle.word_rule.specs.declared.entry.Grant.{Grant};
 ghost use Rattle.word_rule.specs.KeeperSteps.{TellsAsk, TellsSlot};
 ghost use Rattle.word_rule.specs.Views.{IsLong, grant_in, kept_at, row_of};
@@ -40,12 +41,18 @@ pub enum Asked {
 }
 
 /// The word of a slot, read as any other doubleword is.
+///
+/// # Errors
+///
+/// As [`TableBus`] reads.
 pub fn look<J: Naming>(
     memory: &Memory<J>,
     seat: &mut HartSeat<J>,
     slot: u64,
 ) -> Result<u64, BusFault>
-    ensures { Calls seat.old (Item.Read slot 8 result) seat.new }
+    ensures calls { Calls seat.old (Item.Read slot 8 result) seat.new }
+    ensures permits { Permits may_read slot 8 result }
+    ensures bound { HasValue 8 result }
 {
     TableBus::new(memory, seat).read(slot, 8)
 }

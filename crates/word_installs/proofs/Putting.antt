@@ -1,5 +1,5 @@
 -- Words that are put into memory: one more leaves those that are there.
-use Rattle.std.proofs.Common.{◌≡◌, ◌≢◌, ◌⊎◌, ⊎_elim, inl, inr, ℕ, zero, suc, ◌+◌, ◌*◌, ◌<◌, ◌≤◌, true, false, List, [], ◌∷◌, length, Some, Result, Ok, Err, IfOk, IfErr, refl, sym, ap, subst, ◌∙◌, arith}
+use Rattle.std.proofs.Common.{◌≡◌, ◌≢◌, ◌⊎◌, ⊎_elim, inl, inr, ℕ, zero, suc, ◌+◌, ◌*◌, ◌<◌, ◌≤◌, true, false, List, [], ◌∷◌, length, Some, refl, sym, ap, subst, ◌∙◌, arith}
 use mathlib.Core.Logic.{dite}
 use native.Mathlib.Decide.{ℕ_discrete}
 use Rattle.std.specs.List.{slice_get}
@@ -96,12 +96,12 @@ pub word_put : (address : ℕ) (word : Word) (k l : KeeperView) → IsLong k →
 word_put address word k l long placed plain set =
     one_put (OfWord address word) address 0 word k l long placed set (λ a z x is. (is.0, is.2, is.1)) (refl, refl, refl, plain)
 
--- a doubleword without a role isn't locked, and so it may be set and is
+-- a doubleword without a role may be set
 pub may_set : (k : KeeperView) (a value : ℕ) (role : Role) → IsDoubleword a → (kept_at k (place_of a)).role ≡ NoRole → is_plain role ≡ true → MaySet k a value role
 may_set k a value role placed free plain = record {
   at = word_address a placed;
+  fresh = free;
   some_role = λ none. (let both : true ≡ false = sym plain ∙ ap is_plain none in cc);
-  was = inl free;
   leads = λ slot. absurd (let both : true ≡ false = sym plain ∙ ap is_plain slot in cc);
 }
 
@@ -109,14 +109,10 @@ pub may_set_slot : (k : KeeperView) (images : List Image) (slot : SlotWord) (wor
     → MaySet k slot.address word.value Slot
 may_set_slot k images slot word may has role = record {
   at = word_address slot.address (may.placed word has);
+  fresh = may.free word has role;
   some_role = λ none. (let both : Slot ≡ NoRole = none in cc);
-  was = inl (may.free word has role);
   leads = λ same. may.leads word has role;
 }
-
-pub was_set : {X E : Type 0} (k l m : KeeperView) (d : ℕ) (result : Result X E) → (kept_at k d).role ≡ NoRole → IfOk result (λ _. l ≡ m) → IfErr result (λ _. (kept_at k d).role ≡ Rw) → l ≡ m
-was_set k l m d (Ok x) free ok err = ok
-was_set k l m d (Err e) free ok err = absurd (let both : NoRole ≡ Rw = sym free ∙ err in cc)
 
 -- ---- words from an address on
 

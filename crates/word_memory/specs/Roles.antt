@@ -1,5 +1,5 @@
 -- When a doubleword may get a role, and when one may be taken away.
-use Rattle.std.specs.Prelude.{◌≡◌, ◌≢◌, ◌⊎◌, ℕ}
+use Rattle.std.specs.Prelude.{◌≡◌, ◌≢◌, ℕ}
 use Rattle.ld_base.specs.declared.linking.Role.{Role}
 use Rattle.ld_base.specs.declared.linking.Role.TheVariants.{None as NoRole, Slot as SlotRole}
 use Rattle.word_rule.specs.declared.view.KeeperView.{KeeperView}
@@ -8,12 +8,11 @@ use Rattle.word_rule.specs.Views.{kept_at, row_of}
 use Rattle.word_rule.specs.Allowed.{LeadsTo, NothingEnters}
 use Rattle.word_rule.specs.KeeperSteps.{Unposted}
 
--- a doubleword may be set: a role comes where there was none, and only the value changes of one that has its role already; a
--- slot's word is 0 or leads to an RX word
+-- a doubleword may be set: a role comes where there was none; a slot's word is 0 or leads to an RX word
 pub record MaySet (k : KeeperView) (address value : ℕ) (role : Role) : Type 0 where
   pub at : IsDoubleword address
+  pub fresh : (kept_at k (place_of address)).role ≡ NoRole
   pub some_role : role ≢ NoRole
-  pub was : ((kept_at k (place_of address)).role ≡ NoRole) ⊎ (((kept_at k (place_of address)).role ≡ role) × (role ≢ SlotRole))
   pub leads : role ≡ SlotRole → LeadsTo (kept_at k) value
 
 -- a role may be taken away: no grant is open of a slot, and nothing enters another doubleword

@@ -12,13 +12,17 @@ use word_steps::{Memory, Naming};
 /// A memory as the bus of the hart whose seat this is.
 #[derive(Drop)]
 pub struct TableBus<'a, J: Naming> {
-    memory: &'a Memory<J>,
-    seat: &'a mut HartSeat<J>,
+    /// The memory.
+    pub memory: &'a Memory<J>,
+    /// The hart's seat, whose trail has the calls.
+    pub seat: &'a mut HartSeat<J>,
 }
 
 impl<'a, J: Naming> TableBus<'a, J> {
+    /// The bus over a memory and a hart's seat.
     pub fn new(memory: &'a Memory<J>, seat: &'a mut HartSeat<J>) -> Self
-        ensures { (result.memory ≡ memory.entry) × (result.seat ≡ seat.entry) }
+        ensures memory { result.memory ≡ memory.entry }
+        ensures seat { result.seat ≡ seat.entry }
     {
         TableBus { memory, seat }
     }

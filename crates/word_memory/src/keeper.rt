@@ -1,10 +1,10 @@
 //! The keeper's seat between its calls, and what it does with doublewords, events and harts.
 
-ghost use Rattle.std.specs.Prelude.{◌≡◌, ◌<◌, ◌+◌, ◌↔◌, ℕ, IfErr, IfOk, IsTrue, Some, length};
+ghost use Rattle.std.specs.Prelude.{◌≡◌, ◌<◌, ◌+◌, ◌↔◌, ℕ, IfErr, IfOk, IsOk, IsTrue, Some, length};
 ghost use Rattle.ld_base.specs.declared.linking.Role.TheVariants.{Rw, Slot};
 ghost use Rattle.word_rule.specs.declared.view.Offer.{Offer};
 ghost use Rattle.word_rule.specs.Joining.{IsSettled};
-ghost use Rattle.word_rule.specs.KeeperSteps.{KeeperLearns, KeeperLeaves, KeeperReady, keeper_after, keeper_op, keeper_word, retired};
+ghost use Rattle.word_rule.specs.KeeperSteps.{AreDecided, KeeperLearns, KeeperLeaves, KeeperReady, keeper_after, keeper_op, keeper_word, retired};
 ghost use Rattle.word_rule.specs.Layout.{IsDoubleword, place_of, table_words};
 ghost use Rattle.word_rule.specs.Operations.{load, store};
 ghost use Rattle.word_rule.specs.Views.{BeginsWith, IsLong, NoneAbove, first_hart, kept_at, known_of, readings_of, row_of};
@@ -38,12 +38,12 @@ impl<J: Naming> Model for KeeperSeat<J> {
     ghost invariant = { λ s. IsResting s.desk };
 }
 
-/// Gives a doubleword a value and a role; where the role is Slot, the slot has this lazy word.
+/// Gives a doubleword that has no role a value and a role; where the role is Slot, the slot has this lazy
+/// word.
 ///
 /// # Errors
 ///
-/// What a step of this call found that shows another seat's lock: the doubleword's role was RW then.
-/// Nothing is changed, but that the keeper's view has it behind what was shown before.
+/// None comes, since no other seat locks a doubleword without a role.
 pub fn set_word<J: Naming>(
     memory: &Memory<J>,
     keeper: &mut KeeperSeat<J>,
@@ -53,10 +53,8 @@ pub fn set_word<J: Naming>(
     lazy: u64,
 ) -> Result<(), Shown>
     requires { MaySet keeper.old address value role }
-    ensures ok { IfOk result (λ _. keeper.new ≡ set_as (place_of address) value role lazy keeper.old) }
-    ensures seen { IfErr result (λ shown. keeper.new ≡ was_shown (place_of address) shown keeper.old) }
-    ensures shown { IfErr result IsShown }
-    ensures writable { IfErr result (λ shown. (kept_at keeper.old (place_of address)).role ≡ Rw) }
+    ensures set { keeper.new ≡ set_as (place_of address) value role lazy keeper.old }
+    ensures ok { IsOk result }
     ensures long { IsLong keeper.old }
 {
     word_access::set(
@@ -132,11 +130,13 @@ pub fn set_generation<J: Naming>(memory: &Memory<J>, keeper: &mut KeeperSeat<J>,
     );
 }
 
-/// The generation of the TLS modules that was set last.
+/// The generation of the TLS modules that was set last. And what came of each slot's grants, as far as the
+/// keeper knows their fates, is decided.
 #[tactic(auto, using(word_rule::specs::Lemmas::Heeding::heeds))]
 pub fn latest_generation<J: Naming>(memory: &Memory<J>, keeper: &mut KeeperSeat<J>) -> u64
     ensures keeper { keeper.new ≡ keeper.old }
     ensures latest { result ≡ keeper.old.generation }
+    ensures decided { AreDecided keeper.old }
 {
     keeper.load_word(memory, GENERATION, KeeperKind::RecallGeneration)
 }

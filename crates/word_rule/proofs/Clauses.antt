@@ -206,8 +206,8 @@ clauses words views g = record {
       (λ k. let q : hart m ≡ keeper = sym n.1 ∙ (g.parts.locks.keepers.named d k).1 in absurd (cc)),
     );
     one_names = λ m n d a b. let q : hart m ≡ hart n = sym ((g.parts.locks.of_hart m).named d a).1 ∙ ((g.parts.locks.of_hart n).named d b).1 in cc;
-    still = λ d low bit is. let at = g.parts.locks.each_word d low in
-        holds word g.kept g.hart g.parts (kept_at g.kept d).role (word (value_at d)) (kept_at g.kept d).value is (at.holds (is_free (word (value_at d)) (word (control_at d)) (g.parts.locks.owner d) (kept_at g.kept d) at bit));
+    still = λ d low is. holds word g.kept g.hart g.parts (kept_at g.kept d).role (word (value_at d)) (kept_at g.kept d).value is (g.parts.locks.each_word d low).holds;
+    fetched = g.parts.fetches.fetched;
   };
   slots = slot_clauses word g.kept g.hart g.parts;
   counts = record {

@@ -1,9 +1,10 @@
 -- The worked steps, by computation.
-use Rattle.std.proofs.Common.{◌≡◌, ℕ, ◌≤◌, ◌<◌, arith, true, false, [], ◌∷◌, ◌++◌, refl, ap, ◌∙◌, inr}
+use Rattle.std.proofs.Common.{◌≡◌, ℕ, ◌≤◌, ◌<◌, arith, true, false, List, [], ◌∷◌, ◌++◌, length, refl, ap, ◌∙◌, inr}
 use Rattle.ld_base.specs.declared.linking.Role.{Role}
 use Rattle.ld_base.specs.declared.linking.Role.TheVariants.{Slot as SlotRole}
 use Rattle.word_rule.specs.declared.kind.StoreAsk.TheVariants.{Conditional}
 use Rattle.word_rule.specs.declared.view.KeeperView.{KeeperView}
+use Rattle.word_rule.specs.declared.view.Retired.{Retired}
 use Rattle.word_rule.specs.Views.{kept_at}
 use Rattle.word_rule.specs.HartSteps.{is_fresh, last_control}
 use Rattle.word_rule.specs.Layout.{doublewords, place_of}
@@ -40,16 +41,14 @@ one_wins = (refl, refl, refl, refl)
 pub role_comes_and_goes : RoleComesAndGoes
 role_comes_and_goes = (refl, refl, refl, refl)
 
+abbrev went : ℕ → Role → KeeperView → Retired
+went d r v = record { at = d; role = r; generation = v.generation; number = length v.events }
+
 pub roles_go_in_order : RolesGoInOrder
 roles_go_in_order k none_yet slot = (
-  behind 0 SlotRole k k.generation none_yet slot,
-  (λ l is rx. ap (λ gone. gone ++ record { at = 1; role = (kept_at l 1).role; generation = l.generation } ∷ []) is
-      ∙ ap (λ r. record { at = 0; role = SlotRole; generation = k.generation } ∷ record { at = 1; role = r; generation = l.generation } ∷ []) rx),
+  ap (λ gone. gone ++ went 0 (kept_at k 0).role k ∷ []) none_yet ∙ ap (λ r. went 0 r k ∷ []) slot,
+  (λ l is rx. ap (λ gone. gone ++ went 1 (kept_at l 1).role l ∷ []) is ∙ ap (λ r. went 0 SlotRole k ∷ went 1 r l ∷ []) rx),
 )
-  where
-    behind : (d : ℕ) (r : Role) (k : KeeperView) (g : ℕ) → k.retired ≡ [] → (kept_at k d).role ≡ r
-        → k.retired ++ record { at = d; role = (kept_at k d).role; generation = g } ∷ [] ≡ record { at = d; role = r; generation = g } ∷ []
-    behind d r k g none is = ap (λ gone. gone ++ record { at = d; role = (kept_at k d).role; generation = g } ∷ []) none ∙ ap (λ r. record { at = d; role = r; generation = g } ∷ []) is
 
 pub look_keeps : LookKeeps
 look_keeps = (refl, refl)

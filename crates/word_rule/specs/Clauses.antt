@@ -20,6 +20,7 @@ use Rattle.word_rule.specs.Layout.{doublewords, harts_at_most, lock_bit, place_o
 use Rattle.word_rule.specs.Views.{BeginsWith, entries_of, entry_of, exchanges_of, field_of, first_hart, grant_in, kept_at, NoneAbove, NoneLater, readings_of, row_of, tried_entry}
 use Rattle.word_rule.specs.HartSteps.{Awaits, IsMark}
 use Rattle.word_rule.specs.Calls.{IsEvent, Stage}
+use Rattle.word_rule.specs.Fetches.{AreFetched}
 use Rattle.word_rule.specs.Generations.{AllKept}
 use Rattle.word_rule.specs.Slots.{HasLost, HasWon, IsGrant, Rising}
 use Rattle.word_rule.specs.Allowed.{IsAllowed, IsLost, IsOf, IsSlot, IsWon, LeadsTo, Stands}
@@ -55,9 +56,11 @@ pub record LockClauses (word : ℕ → ℕ) (kept : KeeperView) (hart : ℕ → 
   pub hart_names : (m d : ℕ) → (hart m).access.locked ≡ Some d
       → (lock_bit (word (control_at d)) ≡ 1) × ((kept_at kept d).role ≡ Rw) × (kept.access.locked ≢ Some d)
   pub one_names : (m n d : ℕ) → (hart m).access.locked ≡ Some d → (hart n).access.locked ≡ Some d → m ≡ n
-  -- an unlocked RO or RX doubleword has the value that the keeper knows
-  pub still : (d : ℕ) → d < doublewords → lock_bit (word (control_at d)) ≡ 0 → ((kept_at kept d).role ≡ Ro) ⊎ ((kept_at kept d).role ≡ Rx)
+  -- an RO or RX doubleword has the value that the keeper knows, whoever has locked it
+  pub still : (d : ℕ) → d < doublewords → ((kept_at kept d).role ≡ Ro) ⊎ ((kept_at kept d).role ≡ Rx)
       → word (value_at d) ≡ (kept_at kept d).value
+  -- a fetch found that value, in an RX doubleword that has its role still, or lost it since
+  pub fetched : (m : ℕ) → AreFetched (kept_at kept) kept.retired (hart m).trail
 
 -- ---- slots and exchanges
 

@@ -20,6 +20,7 @@ use Rattle.word_rule.specs.Layout.{control_at, count_at, generation_at, index_of
 use Rattle.word_rule.specs.Layout.{doublewords, harts_at_most, lock_bit, place_of, role_code, to_lock, to_unlock}
 use Rattle.word_rule.specs.Views.{BeginsWith, entries_of, entry_of, exchanges_of, field_of, grant_in, kept_at, NoneAbove, nothing_locked, row_of, with_field}
 use Rattle.word_rule.specs.Allowed.{IsAllowed, IsDecided, IsLost, IsOf, IsPostable, IsSlot, IsWon, LeadsTo, NothingEnters}
+use Rattle.word_rule.specs.Fetches.{AreFetched}
 use Rattle.word_rule.specs.Generations.{AllKept}
 use Rattle.word_rule.specs.Slots.{HasLost, HasWon, IsGrant, Rising}
 use Rattle.word_rule.specs.Operations.{Op, load, store, exchange, add}
@@ -47,10 +48,10 @@ abbrev pub keeps_if : ℕ → Bool → KeeperView → KeeperView
 keeps_if d true k = accessing (record { locked = Some d; held = None; last = None }) k
 keeps_if d false k = accessing nothing_locked k
 
--- a doubleword's role is taken away, at this generation
+-- a doubleword's role is taken away, at this generation and behind these events
 abbrev pub retired : ℕ → KeeperView → KeeperView
 retired d k = record (with_kept d (record (kept_at k d) { role = NoRole }) k) {
-  retired = k.retired ++ record { at = d; role = (kept_at k d).role; generation = k.generation } ∷ [];
+  retired = k.retired ++ record { at = d; role = (kept_at k d).role; generation = k.generation; number = length k.events } ∷ [];
 }
 
 -- a slot was looked at: a word that isn't the lazy word stays
@@ -114,7 +115,7 @@ keeper_word (kinds.Look d) = control_at d
 keeper_word (kinds.Load d) = value_at d
 keeper_word (kinds.Lock d control) = control_at d
 keeper_word (kinds.Store d x) = value_at d
-keeper_word (kinds.Unlock d old new lazy) = control_at d
+keeper_word (kinds.Unlock d role lazy) = control_at d
 keeper_word (kinds.Count e) = count_at
 keeper_word (kinds.Await m) = state_at m
 keeper_word (kinds.Ask m) = state_at m
@@ -135,7 +136,7 @@ keeper_op (kinds.Look d) = load
 keeper_op (kinds.Load d) = load
 keeper_op (kinds.Lock d control) = exchange control (control + to_lock)
 keeper_op (kinds.Store d x) = store x
-keeper_op (kinds.Unlock d old new lazy) = add (to_unlock old new)
+keeper_op (kinds.Unlock d role lazy) = add (to_unlock NoRole role)
 keeper_op (kinds.Count e) = add 1
 keeper_op (kinds.Await m) = load
 keeper_op (kinds.Ask m) = load
@@ -169,10 +170,10 @@ KeeperReady (kinds.Look d) k = (d < doublewords) × (k.access.locked ≡ None) �
 KeeperReady (kinds.Load d) k = (d < doublewords) × (k.access.locked ≡ None) × (k.access.last ≡ None)
 KeeperReady (kinds.Lock d control) k =
     (d < doublewords) × (k.access.locked ≡ None) × (k.access.last ≡ Some (d, control)) × (lock_bit control ≡ 0) × ((kept_at k d).role ≡ SlotRole → Unposted k d)
-KeeperReady (kinds.Store d x) k = (k.access.locked ≡ Some d) × ((kept_at k d).role ≢ SlotRole)
-KeeperReady (kinds.Unlock d old new lazy) k =
-    (k.access.locked ≡ Some d) × (old ≡ (kept_at k d).role) × (old ≢ SlotRole) × (new ≢ NoRole) × ((old ≡ NoRole) ⊎ (old ≡ new))
-    × (k.access.held ≡ Some (kept_at k d).value) × (new ≡ SlotRole → LeadsTo (kept_at k) (kept_at k d).value)
+KeeperReady (kinds.Store d x) k = (k.access.locked ≡ Some d) × ((kept_at k d).role ≡ NoRole)
+KeeperReady (kinds.Unlock d role lazy) k =
+    (k.access.locked ≡ Some d) × ((kept_at k d).role ≡ NoRole) × (role ≢ NoRole) × (k.access.held ≡ Some (kept_at k d).value)
+    × (role ≡ SlotRole → LeadsTo (kept_at k) (kept_at k d).value)
 KeeperReady (kinds.Count e) k = length k.events < 18446744073709551615
 KeeperReady (kinds.Await m) k = m < harts_at_most
 KeeperReady (kinds.Ask m) k = (m < harts_at_most) × ((g : Grant) × ((row_of k m).pending ≡ Some g))
@@ -202,8 +203,8 @@ keeper_after (kinds.Load d) k n = accessing nothing_locked (heeding k)
 keeper_after (kinds.Lock d control) k n = record (keeps_if d (eqb n control) (heeding k)) { shown = shown_if d (eqb n control) control n k.shown }
 keeper_after (kinds.Store d x) k n =
     accessing (record { locked = k.access.locked; held = Some x; last = None }) (with_kept d (record (kept_at k d) { value = x }) (heeding k))
-keeper_after (kinds.Unlock d old new lazy) k n =
-    accessing nothing_locked (with_kept d (record { role = new; value = (kept_at k d).value; lazy = lazy; since = length k.events; fixed = None }) (heeding k))
+keeper_after (kinds.Unlock d role lazy) k n =
+    accessing nothing_locked (with_kept d (record { role = role; value = (kept_at k d).value; lazy = lazy; since = length k.events; fixed = None }) (heeding k))
 keeper_after (kinds.Count e) k n = record (heeding k) { events = k.events ++ e.value ∷ [] }
 keeper_after (kinds.Await m) k n = awaited_if m (nat_le 8 n) (heeding k)
 keeper_after (kinds.Ask m) k n = asked_in m n (heeding k)
@@ -225,7 +226,7 @@ KeeperLeaves (kinds.Look d) = ⊥
 KeeperLeaves (kinds.Load d) = ⊥
 KeeperLeaves (kinds.Lock d control) = ⊥
 KeeperLeaves (kinds.Store d x) = ⊥
-KeeperLeaves (kinds.Unlock d old new lazy) = ⊥
+KeeperLeaves (kinds.Unlock d role lazy) = ⊥
 KeeperLeaves (kinds.RetireSlot d) = ⊥
 KeeperLeaves (kinds.Retire d old) = ⊥
 KeeperLeaves _ = Unit {0}
@@ -247,7 +248,7 @@ pub record AreJoinedOnce (k : KeeperView) : Type 0 where
   pub once : (i n : ℕ) (j l : HartView) → slice_get k.joined i ≡ Some j → slice_get k.joined n ≡ Some l → j.number ≡ l.number → i ≡ n
 
 -- it has taken all that was issued to it, and its row has no call; the fates of its grants are those of its exchanges, which found what
--- was seen of those that it lost; and each of its readings of the generation has the last block before it
+-- was seen of those that it lost; each of its readings of the generation has the last block before it; and what it ran is code
 pub record HasTakenAll (k : KeeperView) (m n : ℕ) (j : HartView) : Type 0 where
   pub taken : j.lane.taken ≡ (row_of k m).issued
   pub entries : entries_of j.trail ≡ j.lane.taken
@@ -258,6 +259,7 @@ pub record HasTakenAll (k : KeeperView) (m n : ℕ) (j : HartView) : Type 0 wher
   pub granted : (x : Exchange) → Contains (exchanges_of j.trail) x → IsGrant (row_of k m) x.grant
   pub rising : Rising (exchanges_of j.trail)
   pub kept : AllKept [] j.trail
+  pub fetched : AreFetched (kept_at k) k.retired j.trail
 
 -- a row with a grant whose fate isn't known is open, won or lost, and has the grant's words
 pub record TellsAsk (k : KeeperView) (m n : ℕ) : Type 0 where
@@ -283,17 +285,21 @@ pub record TellsSlot (k : KeeperView) (d n : ℕ) : Type 0 where
   pub won : (m : ℕ) (g : Grant) → m < harts_at_most → IsWon (row_of k m) g → IsOf (kept_at k) d g → n ≡ g.entry.value
   pub bound : (kept_at k d).value ≢ (kept_at k d).lazy → n ≡ (kept_at k d).value
 
+-- so each slot is
+abbrev pub AreDecided : KeeperView → Type 0
+AreDecided k = (d : ℕ) → IsSlot (kept_at k) d → IsDecided (kept_at k) (row_of k) d
+
 abbrev pub KeeperLearns : KeeperKind → KeeperView → ℕ → Type 0
 KeeperLearns (kinds.Look d) k n = (n % 8 ≡ role_code (kept_at k d).role) × ((kept_at k d).role ≢ Rw → lock_bit n ≡ 0)
 KeeperLearns (kinds.Load d) k n = ((kept_at k d).role ≡ Ro) ⊎ ((kept_at k d).role ≡ Rx) → n ≡ (kept_at k d).value
 KeeperLearns (kinds.Lock d control) k n = (kept_at k d).role ≢ Rw → n ≡ control
 KeeperLearns (kinds.Count e) k n = n ≡ length k.events
 KeeperLearns (kinds.Await m) k n =
-    ((j : HartView) → HasEnded k m j → HasTakenAll k m n j) × ((d : ℕ) → IsSlot (kept_at k) d → IsDecided (kept_at k) (row_of k) d) × AreJoinedOnce k
+    ((j : HartView) → HasEnded k m j → HasTakenAll k m n j) × AreDecided k × AreJoinedOnce k
 KeeperLearns (kinds.Ask m) k n = TellsAsk k m n
 KeeperLearns (kinds.Saw d m) k n = TellsSlot k d n
 KeeperLearns (kinds.Recall m i) k n = n ≡ field_of i (row_of k m)
-KeeperLearns kinds.RecallGeneration k n = n ≡ k.generation
+KeeperLearns kinds.RecallGeneration k n = (n ≡ k.generation) × AreDecided k
 KeeperLearns (kinds.RecallRole d) k n = n % 8 ≡ role_code (kept_at k d).role
 KeeperLearns kinds.Listen k n = KeeperHeard k.note k
 KeeperLearns _ k n = Unit {0}

@@ -1,5 +1,6 @@
 -- Lemmas on this crate's definitions that proofs of the crates above cite, too. They define nothing that a contract means.
 pub mod Begins
+pub mod Fetches
 pub mod HartCalls
 pub mod HartLocks
 pub mod HartSlots

@@ -1,6 +1,7 @@
 pub mod Allowed
 pub mod Calls
 pub mod Clauses
+pub mod Fetches
 pub mod Generations
 pub mod HartSteps
 pub mod Joining

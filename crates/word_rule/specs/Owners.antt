@@ -1,7 +1,8 @@
--- Who changes a doubleword, a row, a trail or what is known of a slot, and who loads the count.
+-- Who changes a doubleword, a row, a trail or what is known of a word, and who loads the count.
 use Rattle.std.specs.Prelude.{◌≡◌, ◌≢◌, ◌⊎◌, ℕ, ◌+◌, ◌%◌, ◌^◌, ◌<◌, false, List, [], ◌∷◌, ◌++◌, map, Some, None, slice_index}
 use mathlib.Core.Option.{some}
 use lib.ListN.{get_elem?}
+use Rattle.ld_base.specs.declared.linking.Role.TheVariants.{None as NoRole}
 use Rattle.word_rule.specs.declared.kind.HartKind.{HartKind}
 use Rattle.word_rule.specs.declared.kind.HartKind.TheVariants as harts
 use Rattle.word_rule.specs.declared.kind.KeeperKind.{KeeperKind}
@@ -14,9 +15,8 @@ use Rattle.word_rule.specs.declared.view.TrailItem.{TrailItem}
 use Rattle.word_rule.specs.declared.view.View.{View}
 use Rattle.word_rule.specs.declared.view.View.TheVariants.{Keeper, Hart}
 use Rattle.word_rule.specs.Layout.{control_at, count_at, row_at, state_at, value_at}
-use Rattle.word_rule.specs.Layout.{harts_at_most, lock_bit, place_of, role_code, version_in}
+use Rattle.word_rule.specs.Layout.{doublewords, harts_at_most, lock_bit, place_of, role_code, version_in}
 use Rattle.word_rule.specs.Views.{IsLong, kept_at, row_of}
-use Rattle.word_rule.specs.Allowed.{IsSlot}
 use Rattle.word_rule.specs.Operations.{Op, becomes, load}
 use Rattle.word_rule.specs.HartSteps.{Awaits, HartReady, IsMark, hart_after, hart_op, hart_word, store_place}
 use Rattle.word_rule.specs.KeeperSteps.{KeeperReady, keeper_after, keeper_op, keeper_word}
@@ -59,6 +59,11 @@ OnlyOwnersChange =
     → IsOfDoubleword d (hart_word kind) → (h.access.locked ≡ Some d) ⊎ HartEnters kind d)
     × ((kind : KeeperKind) (k : KeeperView) (d : ℕ) → KeeperReady kind k → keeper_op kind ≢ load
     → IsOfDoubleword d (keeper_word kind) → (k.access.locked ≡ Some d) ⊎ KeeperEnters kind d)
+
+-- the keeper changes the value of a doubleword only where it has no role: it is about to be mapped
+abbrev pub OnlyFreshAreStored : Type 0
+OnlyFreshAreStored =
+    (kind : KeeperKind) (k : KeeperView) (d : ℕ) → KeeperReady kind k → keeper_op kind ≢ load → keeper_word kind ≡ value_at d → (kept_at k d).role ≡ NoRole
 
 -- a lock leaves a doubleword as it is that somebody has locked
 abbrev pub LockedStay : Type 0
@@ -106,14 +111,14 @@ pub record TrailsGrow : Type 0 where
   pub of_keeper : (kind : KeeperKind) (k : KeeperView) (n : ℕ) → trails_of (Keeper (keeper_after kind k n)) ≡ trails_of (Keeper k)
   pub taken_in : (v w : View) → MayTake v w → trails_of (takes_in v w) ≡ trails_of v ++ trails_of w
 
--- ---- slots
+-- ---- doublewords with a role
 
 -- the same of a doubleword, but for what was seen of it
-abbrev pub IsSameSlot : Kept → Kept → Type 0
-IsSameSlot before after = record after { fixed = None } ≡ record before { fixed = None }
+abbrev pub IsSameWord : Kept → Kept → Type 0
+IsSameWord before after = record after { fixed = None } ≡ record before { fixed = None }
 
--- a slot that is there after a step of the keeper, and was before, is the same one
-abbrev pub SlotsStay : Type 0
-SlotsStay =
-    (kind : KeeperKind) (k : KeeperView) (n d : ℕ) → IsLong k → KeeperReady kind k → IsSlot (kept_at k) d → IsSlot (kept_at (keeper_after kind k n)) d
-    → IsSameSlot (kept_at k d) (kept_at (keeper_after kind k n) d)
+-- a doubleword that has a role before and after a step of the keeper has the same one, and the same word
+abbrev pub WordsStay : Type 0
+WordsStay =
+    (kind : KeeperKind) (k : KeeperView) (n d : ℕ) → IsLong k → KeeperReady kind k → d < doublewords → (kept_at k d).role ≢ NoRole
+    → (kept_at (keeper_after kind k n) d).role ≢ NoRole → IsSameWord (kept_at k d) (kept_at (keeper_after kind k n) d)

@@ -18,6 +18,7 @@ use Rattle.word_rule.specs.Words.{Words}
 use Rattle.word_rule.specs.Calls.{Calls}
 use Rattle.word_rule.specs.Slots.{AreLosses, Slots}
 use Rattle.word_rule.specs.Generations.{Generations}
+use Rattle.word_rule.specs.Fetches.{Fetches}
 
 -- the parts, over the words and what the views say: the keeper's, and the last view of each hart
 pub record Parts (word : ℕ → ℕ) (kept : KeeperView) (hart : ℕ → HartView) : Type 0 where
@@ -28,6 +29,7 @@ pub record Parts (word : ℕ → ℕ) (kept : KeeperView) (hart : ℕ → HartVi
       (after (λ (h : HartView). exchanges_of h.trail) hart)
   pub losses : AreLosses kept.losses (after (λ (h : HartView). exchanges_of h.trail) hart)
   pub generations : Generations word kept.generation (row_of kept) (after (λ (h : HartView). h.trail) hart)
+  pub fetches : Fetches (kept_at kept) kept.retired (after (λ (h : HartView). h.access) hart) (after (λ (h : HartView). h.trail) hart)
 
 pub record IsGuest (words : List ℕ) (views : List View) : Type 0 where
   pub kept : KeeperView

@@ -6,7 +6,7 @@ use Rattle.word_rule.specs.declared.view.Access.{Access}
 use Rattle.word_rule.specs.declared.view.Kept.{Kept}
 use Rattle.word_rule.specs.Layout.{doublewords, value_at, control_at, role_code, lock_bit}
 
--- an unlocked RO or RX doubleword has the value that the keeper knows; what a slot holds is said beside slots
+-- an RO or RX doubleword has the value that the keeper knows, be it locked or not; what a slot holds is said beside slots
 abbrev pub Holds : Role → ℕ → ℕ → Type 0
 Holds Ro known value = value ≡ known
 Holds Rx known value = value ≡ known
@@ -23,7 +23,7 @@ pub record WordIs (value control : ℕ) (owner : Owner) (known : Kept) : Type 0 
   pub role : control % 8 ≡ role_code known.role
   pub free : owner ≡ nobody → lock_bit control ≡ 0
   pub taken : owner ≢ nobody → lock_bit control ≡ 1
-  pub holds : owner ≡ nobody → Holds known.role known.value value
+  pub holds : Holds known.role known.value value
 
 -- of a seat: it names a doubleword as locked exactly where it owns it; the value that it knows of it is right
 pub record LockIs (word : ℕ → ℕ) (owner : ℕ → Owner) (me : Owner) (a : Access) : Type 0 where

@@ -1,6 +1,6 @@
 -- Worked steps: two harts on one doubleword, a conditional store that comes after another's store, two harts that resolve one slot,
 -- and a row that goes between the keeper and its hart.
-use Rattle.std.specs.Prelude.{◌≡◌, [], ◌∷◌, None, Some, Ok, Err, true, false}
+use Rattle.std.specs.Prelude.{◌≡◌, [], ◌∷◌, length, None, Some, Ok, Err, true, false}
 use Rattle.ld_base.specs.declared.fault.Shown.TheVariants.{Locked}
 use Rattle.ld_base.specs.declared.linking.Role.TheVariants.{None as NoRole, Rx, Slot as SlotRole}
 use Rattle.rv_hart.specs.declared.bus.BusFault.TheVariants.{Again}
@@ -13,6 +13,7 @@ use Rattle.word_rule.specs.declared.kind.HartKind.TheVariants as kinds
 use Rattle.word_rule.specs.declared.kind.KeeperKind.TheVariants as keeps
 use Rattle.word_rule.specs.declared.view.KeeperView.{KeeperView}
 use Rattle.word_rule.specs.declared.view.Kept.{Kept}
+use Rattle.word_rule.specs.declared.view.Retired.{Retired}
 use Rattle.word_rule.specs.declared.view.TrailItem.TheVariants.{Call, Exchanged}
 use Rattle.word_rule.specs.Views.{first_hart, kept_at}
 use Rattle.word_rule.specs.Operations.{becomes}
@@ -71,17 +72,17 @@ OneWins =
 abbrev pub RoleComesAndGoes : Type 0
 RoleComesAndGoes =
     (becomes (keeper_op (keeps.Lock 0 0)) 0 ≡ 8)
-    × (becomes (keeper_op (keeps.Unlock 0 NoRole SlotRole 5)) 8 ≡ 20)
+    × (becomes (keeper_op (keeps.Unlock 0 SlotRole 5)) 8 ≡ 20)
     × (becomes (keeper_op (keeps.Lock 0 20)) 20 ≡ 28)
     × (becomes (keeper_op (keeps.RetireSlot 0)) 28 ≡ 32)
 
--- a slot's role is taken away, and then another doubleword's: they stand in this order, each at the keeper's generation
+-- a slot's role is taken away, and then another doubleword's: they stand in this order, each at the keeper's generation and count
 abbrev pub RolesGoInOrder : Type 0
 RolesGoInOrder = (k : KeeperView) → k.retired ≡ [] → (kept_at k 0).role ≡ SlotRole
-    → ((keeper_after (keeps.RetireSlot 0) k 28).retired ≡ record { at = 0; role = SlotRole; generation = k.generation } ∷ [])
-    × ((l : KeeperView) → l.retired ≡ record { at = 0; role = SlotRole; generation = k.generation } ∷ [] → (kept_at l 1).role ≡ Rx
-    → (keeper_after (keeps.Retire 1 Rx) l 10).retired
-    ≡ record { at = 0; role = SlotRole; generation = k.generation } ∷ record { at = 1; role = Rx; generation = l.generation } ∷ [])
+    → let first : Retired = record { at = 0; role = SlotRole; generation = k.generation; number = length k.events } in
+    ((keeper_after (keeps.RetireSlot 0) k 28).retired ≡ first ∷ [])
+    × ((l : KeeperView) → l.retired ≡ first ∷ [] → (kept_at l 1).role ≡ Rx
+    → (keeper_after (keeps.Retire 1 Rx) l 10).retired ≡ first ∷ record { at = 1; role = Rx; generation = l.generation; number = length l.events } ∷ [])
 
 -- a look at a slot whose lazy word is 5 keeps the word found, unless that is 5
 abbrev pub LookKeeps : Type 0

@@ -82,11 +82,11 @@ pub enum KeeperKind {
     Load(u64),
     /// To lock a doubleword, whose control word was found to be this. (Lock by compare-exchange.)
     Lock(u64, u64),
-    /// To store this value in the doubleword that it has locked. (Store under lock.)
+    /// To store this value in the doubleword that it has locked, and that has no role. (Store under lock.)
     Store(u64, u64),
-    /// To unlock a doubleword: its role, the role that it gets, and the lazy word where that is a slot's.
-    /// (Unlock, with a new role.)
-    Unlock(u64, Role, Role, u64),
+    /// To unlock a doubleword that has no role: the role that it gets, and the lazy word where that is a
+    /// slot's. (Unlock, with a new role.)
+    Unlock(u64, Role, u64),
     /// To count an event. (Add one to the count.)
     Count(Snapshot<Event>),
     /// To load the state of a hart's row, and see whether it calls. (Ask.)

@@ -17,7 +17,7 @@ ghost use Rattle.word_rule.specs.KeeperSteps.{KeeperLeaves, KeeperReady, keeper_
 ghost use Rattle.word_rule.specs.Rule.{HartKeeps, IsGuest, KeeperKeeps};
 ghost use Rattle.word_rule.specs.Joining.{HasNote, HasRoom, JoinKeeps, MayTake, SplitKeeps, new_hart, note_of, takes_in, with_hart};
 ghost use Rattle.word_rule.specs.Start.{first_keeper, first_words, IsFirst};
-ghost use Rattle.word_rule.specs.Owners.{LockedStay, OnlyOwnersChange, OnlyRowsOwnersChange, OnlyTallyCounts, SlotsStay, TrailsGrow, UnlocksRaise};
+ghost use Rattle.word_rule.specs.Owners.{LockedStay, OnlyFreshAreStored, OnlyOwnersChange, OnlyRowsOwnersChange, OnlyTallyCounts, TrailsGrow, UnlocksRaise, WordsStay};
 ghost use Rattle.word_rule.specs.Views.{IsLane, IsLong, entries_of, first_lane};
 ghost use Rattle.word_rule.specs.Worked.{AnotherHasLocked, ConditionalFails, ConditionalIsRefused, LockIsShown, LookKeeps, OneLocks, OneWins};
 ghost use Rattle.word_rule.specs.Worked.{RoleComesAndGoes, RolesGoInOrder, RowGoesRound, StoreIsOwed};
@@ -42,10 +42,11 @@ pub fn keeper_steps_keep()
 
 /// A step that clears the lock of a control word raises its version by one. A doubleword is changed by
 /// the seat that has locked it alone, but that it is locked, and that a slot is exchanged; and a lock
-/// leaves one that is locked already.
+/// leaves one that is locked already. The keeper changes no value of a doubleword that has a role.
 pub fn owners_change()
     ensures raise { UnlocksRaise }
     ensures owners { OnlyOwnersChange }
+    ensures fresh { OnlyFreshAreStored }
     ensures locked { LockedStay }
 {}
 
@@ -58,11 +59,11 @@ pub fn rows_have_owners()
 {}
 
 /// An exchange stays in its trail: a step leaves each trail as it was, or with one item behind it. And a
-/// slot stays the same while it is one, with its image's word, its lazy word and the count at its start.
-/// So what [`rule_comes_to`] says of an exchange holds on while its slot is there.
+/// doubleword that has a role stays the same while it has one, with its image's word, its lazy word and the
+/// count at its start. So what [`rule_comes_to`] says of an exchange holds on while its slot is there.
 pub fn exchanges_stay()
     ensures trails { TrailsGrow }
-    ensures slots { SlotsStay }
+    ensures words { WordsStay }
 {}
 
 /// The last block of a module among entries is that of the last TLS answer there, and none exactly where

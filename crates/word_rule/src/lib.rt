@@ -8,8 +8,8 @@
 //! holds between any two steps, whoever steps.
 //!
 //! The rule (`specs/Rule.antt`) has parts that speak of different things: who the seats are
-//! (`Seats`), words and locks (`Words`), calls and rows (`Calls`), slots and grants (`Slots`), and the
-//! generation of the TLS modules (`Generations`). Each is a record of facts about words and a few
+//! (`Seats`), words and locks (`Words`), calls and rows (`Calls`), slots and grants (`Slots`), the
+//! generation of the TLS modules (`Generations`), and what harts run (`Fetches`). Each is a record of facts about words and a few
 //! fields of the views, so that a kind of step owes one lemma to each part.
 //!
 //! Nothing here runs. No value of a view is ever made: views exist in proofs alone.

@@ -176,6 +176,8 @@ pub struct Retired {
     pub role: Role,
     /// The generation of the TLS modules then.
     pub generation: u64,
+    /// How many events had been counted then.
+    pub number: u64,
 }
 
 /// What a lost grant's exchange found, as the slot showed it to the keeper.

@@ -1,11 +1,10 @@
 -- The words of the tests are set one after the other.
-use Rattle.std.proofs.Common.{◌≡◌, ◌≢◌, inl, inr, ℕ, ◌<◌, Bool, true, false, cond, [], length, None as Nothing, Result, Ok, Err, IfOk, IfErr, sym, ap, subst, ◌∙◌, arith}
+use Rattle.std.proofs.Common.{◌≡◌, ◌≢◌, inl, inr, ℕ, ◌<◌, Bool, true, false, cond, [], length, None as Nothing, sym, ap, subst, ◌∙◌, arith}
 use Rattle.std.proofs.lemmas.Bool.Decides.{nat_tests}
 use mathlib.Core.Logic.{dite}
 use native.Mathlib.Decide.{ℕ_discrete}
-use Rattle.ld_base.specs.declared.fault.Shown.{Shown}
 use Rattle.ld_base.specs.declared.linking.Role.{Role}
-use Rattle.ld_base.specs.declared.linking.Role.TheVariants.{None as NoRole, Rx, Rw, Slot as SlotRole}
+use Rattle.ld_base.specs.declared.linking.Role.TheVariants.{None as NoRole, Rx, Slot as SlotRole}
 use Rattle.word_rule.specs.declared.view.KeeperView.{KeeperView}
 use Rattle.word_rule.specs.declared.view.Kept.{Kept}
 use Rattle.word_rule.specs.declared.view.Row.{Row}
@@ -46,11 +45,6 @@ low_place d n is low = omega arith
 
 -- ---- one doubleword is set
 
-pub put_done : (k k' : KeeperView) (address value : ℕ) (role : Role) (r : Result Unit Shown) → (kept_at k (place_of address)).role ≡ NoRole
-    → IfOk r (λ _. k' ≡ set_as (place_of address) value role 0x35000 k) → IfErr r (λ _. (kept_at k (place_of address)).role ≡ Rw) → k' ≡ set_as (place_of address) value role 0x35000 k
-put_done k k' address value role (Ok t) unset ok err = ok
-put_done k k' address value role (Err shown) unset ok err = let q : NoRole ≡ Rw = sym unset ∙ err in absurd (cc)
-
 -- a doubleword was set, at this place
 pub record HasSet (k k' : KeeperView) (d x : ℕ) (role : Role) : Type 0 where
   pub set : k' ≡ set_as d x role 0x35000 k
@@ -76,7 +70,7 @@ module _ (k k' : KeeperView) (d x : ℕ) (role : Role) (s : HasSet k k' d x role
       (λ (apart : e ≢ d). (is.0, ap (λ (y : Kept). y.role) (sym (set_else e apart)) ∙ is.1))
 
 pub may : (k : KeeperView) (address value : ℕ) (role : Role) → IsDoubleword address → role ≢ NoRole → (kept_at k (place_of address)).role ≡ NoRole → (role ≡ SlotRole → LeadsTo (kept_at k) value) → MaySet k address value role
-may k address value role at some unset leads = record { at = at; some_role = some; was = inl unset; leads = leads }
+may k address value role at some unset leads = record { at = at; fresh = unset; some_role = some; leads = leads }
 
 rx_some : Rx ≢ NoRole
 rx_some e = absurd (cc)
@@ -103,7 +97,7 @@ module _ (k0 : KeeperView) (made : IsMade k0 512 2) where
       out : in_linker_page 512 d ≡ false
       out = let p = page_place in grind (arith, nat_tests)
 
-  pub unset_lazy : (kept_at k0 (place_of 0x35000)).role ≡ NoRole
+  unset_lazy : (kept_at k0 (place_of 0x35000)).role ≡ NoRole
   unset_lazy = unset (place_of 0x35000) 18944 lazy_place (omega arith)
 
   pub may_lazy : MaySet k0 0x35000 0x0010007300100073 Rx
@@ -116,7 +110,7 @@ module _ (k0 : KeeperView) (made : IsMade k0 512 2) where
     unset1 : (d n : ℕ) → d ≡ n → n < 1000000 → n ≢ 18944 → (kept_at k1 d).role ≡ NoRole
     unset1 d n is low apart = ap (λ (y : Kept). y.role) (set_else k0 k1 (place_of 0x35000) 0x0010007300100073 Rx s1 d (λ e. let p = lazy_place in apart (sym is ∙ (e ∙ p)))) ∙ unset d n is low
 
-    pub unset_first : (kept_at k1 (place_of 0x39000)).role ≡ NoRole
+    unset_first : (kept_at k1 (place_of 0x39000)).role ≡ NoRole
     unset_first = unset1 (place_of 0x39000) 20992 first_place (omega arith) (λ e. absurd (omega arith))
 
     pub may_first : MaySet k1 0x39000 0x0010007300100073 Rx
@@ -129,7 +123,7 @@ module _ (k0 : KeeperView) (made : IsMade k0 512 2) where
       unset2 : (d n : ℕ) → d ≡ n → n < 1000000 → n ≢ 18944 → n ≢ 20992 → (kept_at k2 d).role ≡ NoRole
       unset2 d n is low apart other = ap (λ (y : Kept). y.role) (set_else k1 k2 (place_of 0x39000) 0x0010007300100073 Rx s2 d (λ e. let p = first_place in other (sym is ∙ (e ∙ p)))) ∙ unset1 d n is low apart
 
-      pub unset_second : (kept_at k2 (place_of 0x3c000)).role ≡ NoRole
+      unset_second : (kept_at k2 (place_of 0x3c000)).role ≡ NoRole
       unset_second = unset2 (place_of 0x3c000) 22528 second_place (omega arith) (λ e. absurd (omega arith)) (λ e. absurd (omega arith))
 
       pub may_second : MaySet k2 0x3c000 0x0010007300100073 Rx
@@ -139,7 +133,7 @@ module _ (k0 : KeeperView) (made : IsMade k0 512 2) where
         s3 : HasSet k2 k3 (place_of 0x3c000) 0x0010007300100073 Rx
         s3 = record { set = e3; inside = subst (λ n. place_of 0x3c000 < n) (sym long2.0) (low_place (place_of 0x3c000) 22528 second_place (omega arith)) }
 
-        pub unset_slot : (kept_at k3 (place_of 0x37010)).role ≡ NoRole
+        unset_slot : (kept_at k3 (place_of 0x37010)).role ≡ NoRole
         unset_slot = ap (λ (y : Kept). y.role) (set_else k2 k3 (place_of 0x3c000) 0x0010007300100073 Rx s3 (place_of 0x37010) (λ e. let a = slot_place in let b = second_place in absurd (omega arith)))
             ∙ unset2 (place_of 0x37010) 19970 slot_place (omega arith) (λ e. absurd (omega arith)) (λ e. absurd (omega arith))
 

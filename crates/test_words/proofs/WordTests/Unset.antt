@@ -1,8 +1,6 @@
 -- Doublewords get their roles one after the other.
-use Rattle.std.proofs.Common.{◌≡◌, ◌≢◌, inl, ℕ, ◌+◌, ◌*◌, ◌<◌, false, cond, length, None as Nothing, Result, Ok, Err, IfOk, IfErr, refl, sym, ap, subst, ◌∙◌, arith}
+use Rattle.std.proofs.Common.{◌≡◌, ◌≢◌, ℕ, ◌+◌, ◌*◌, ◌<◌, false, cond, length, None as Nothing, sym, ap, subst, ◌∙◌, arith}
 use Rattle.std.proofs.lemmas.Bool.Decides.{nat_tests}
-use Rattle.ld_base.specs.declared.fault.Shown.{Shown}
-use Rattle.ld_base.specs.declared.fault.Shown.TheVariants.{Locked, Initialising, Closing, OpenGrant}
 use Rattle.ld_base.specs.declared.linking.Role.{Role}
 use Rattle.ld_base.specs.declared.linking.Role.TheVariants.{None as NoRole, Slot as SlotRole}
 use Rattle.word_rule.specs.declared.view.KeeperView.{KeeperView}
@@ -11,7 +9,7 @@ use Rattle.word_rule.specs.Layout.{doublewords, place_of}
 use Rattle.word_rule.specs.Views.{IsLong, kept_at, unmapped}
 use Rattle.word_memory.specs.Roles.{MaySet}
 use Rattle.word_memory.specs.WordSeats.Making.{IsMade, in_linker_page, linker_page, linker_word}
-use Rattle.word_access.specs.WordKeeping.Keeping.{set_as, was_shown}
+use Rattle.word_access.specs.WordKeeping.Keeping.{set_as}
 use Rattle.word_rule.specs.Lemmas.Heeding.{kept_else}
 use Rattle.test_words.specs.WordTests.Unset.{AreUnset}
 
@@ -36,22 +34,14 @@ place_low n low = omega arith
 pub may_set : (k : KeeperView) (n value : ℕ) (role : Role) → n < 64 → role ≢ NoRole → role ≢ SlotRole → AreUnset k n → MaySet k (0x10000 + 8 * n) value role
 may_set k n value role low some other unset = record {
   at = ((omega arith, place_low n low), omega arith);
+  fresh = ap (λ d. (kept_at k d).role) (place_is n low) ∙ unset n (omega arith) low;
   some_role = some;
-  was = inl (ap (λ d. (kept_at k d).role) (place_is n low) ∙ unset n (omega arith) low);
   leads = λ e. absurd (other e);
 }
 
-same_words : (k : KeeperView) (at d : ℕ) (shown : Shown) → (kept_at (was_shown at shown k) d).role ≡ (kept_at k d).role
-same_words k at d (Locked a b) = refl
-same_words k at d (Initialising s) = refl
-same_words k at d (Closing s) = refl
-same_words k at d (OpenGrant g) = refl
-
-pub unset_more : (k k' : KeeperView) (n value : ℕ) (role : Role) (r : Result Unit Shown) → n < 64 → AreUnset k n → IsLong k
-    → IfOk r (λ _. k' ≡ set_as (place_of (0x10000 + 8 * n)) value role 0 k) → IfErr r (λ shown. k' ≡ was_shown (place_of (0x10000 + 8 * n)) shown k) → AreUnset k' (n + 1)
-unset_more k k' n value role (Err shown) low unset long ok same d from few = ap (λ k. (kept_at k d).role) same ∙ (same_words k (place_of (0x10000 + 8 * n)) d shown ∙ unset d (omega arith) few)
-unset_more k k' n value role (Ok t) low unset long ok same d from few =
-    ap (λ k. (kept_at k d).role) ok ∙ (ap (λ (x : Kept). x.role) (kept_else k (place_of (0x10000 + 8 * n)) (record { role = role; value = value; lazy = 0; since = length k.events; fixed = Nothing }) inside d apart) ∙ unset d (omega arith) few)
+pub unset_more : (k k' : KeeperView) (n value : ℕ) (role : Role) → n < 64 → AreUnset k n → IsLong k → k' ≡ set_as (place_of (0x10000 + 8 * n)) value role 0 k → AreUnset k' (n + 1)
+unset_more k k' n value role low unset long set d from few =
+    ap (λ k. (kept_at k d).role) set ∙ (ap (λ (x : Kept). x.role) (kept_else k (place_of (0x10000 + 8 * n)) (record { role = role; value = value; lazy = 0; since = length k.events; fixed = Nothing }) inside d apart) ∙ unset d (omega arith) few)
   where
     inside : place_of (0x10000 + 8 * n) < length k.words
     inside = subst (λ m. place_of (0x10000 + 8 * n) < m) (sym long.0) (place_low n low)

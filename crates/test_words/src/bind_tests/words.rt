@@ -1,7 +1,7 @@
 //! The words that the tests are about: a slot that is lazy, and code.
 
 ghost use Rattle.std.specs.Prelude.{◌≡◌, ◌≢◌, ℕ, None, IfOk, IfSome};
-ghost use Rattle.ld_base.specs.declared.linking.Role.TheVariants.{None as NoRole, Rw};
+ghost use Rattle.ld_base.specs.declared.linking.Role.TheVariants.{Rw};
 ghost use Rattle.word_rule.specs.KeeperSteps.{retired};
 ghost use Rattle.word_rule.specs.Layout.{place_of};
 ghost use Rattle.word_rule.specs.Views.{IsLong, kept_at, row_of};
@@ -37,8 +37,7 @@ fn put_word<J: Naming>(
     value: u64,
     role: Role,
 )
-    requires may { MaySet keeper.old address value role }
-    requires unset { (kept_at keeper.old (place_of address)).role ≡ NoRole }
+    requires { MaySet keeper.old address value role }
     ensures set { keeper.new ≡ set_as (place_of address) value role 0x35000 keeper.old }
     ensures long { IsLong keeper.old }
 {

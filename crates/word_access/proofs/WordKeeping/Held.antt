@@ -116,18 +116,13 @@ stores d x k k1 k2 r locked is = is ∙ (ap (λ k. keeper_after (kinds.Store d x
 long_first : (d : ℕ) (k k1 : KeeperView) → k1 ≡ has_locked d k → IsLong k1 → length k.words ≡ doublewords
 long_first d k k1 locked long = sym (ap (λ (k : KeeperView). length k.words) locked) ∙ long.0
 
-pub set_ready : (d x lazy : ℕ) (old new : Role) (k k1 k2 : KeeperView) → d < doublewords → IsResting k → IsLong k1 → k1 ≡ has_locked d k → k2 ≡ keeper_after (kinds.Store d x) k1 x → old ≡ (kept_at k d).role
-    → new ≢ NoRole → ((kept_at k d).role ≡ NoRole) ⊎ (((kept_at k d).role ≡ new) × (new ≢ SlotRole)) → (new ≡ SlotRole → LeadsTo (kept_at k) x) → KeeperReady (kinds.Unlock d old new lazy) k2
+pub set_ready : (d x lazy : ℕ) (role : Role) (k k1 k2 : KeeperView) → d < doublewords → IsResting k → IsLong k1 → k1 ≡ has_locked d k → k2 ≡ keeper_after (kinds.Store d x) k1 x
+    → (kept_at k d).role ≡ NoRole → role ≢ NoRole → (role ≡ SlotRole → LeadsTo (kept_at k) x) → KeeperReady (kinds.Unlock d role lazy) k2
 unfolding stored
-set_ready d x lazy old new k k1 k2 low r long locked is old_is some_role was leads = subst (KeeperReady (kinds.Unlock d old new lazy)) (sym (stores d x k k1 k2 r locked is)) (
+set_ready d x lazy role k k1 k2 low r long locked is fresh some_role leads = subst (KeeperReady (kinds.Unlock d role lazy)) (sym (stores d x k k1 k2 r locked is)) (
   refl,
-  old_is ∙ sym (ap (λ (y : Kept). y.role) here),
-  (λ e. ⊎_elim
-      (λ (q : (kept_at k d).role ≡ NoRole). let z : NoRole ≡ SlotRole = sym q ∙ (sym old_is ∙ e) in absurd (cc))
-      (λ (q : ((kept_at k d).role ≡ new) × (new ≢ SlotRole)). absurd (q.1 (sym q.0 ∙ (sym old_is ∙ e))))
-      was),
+  ap (λ (y : Kept). y.role) here ∙ fresh,
   some_role,
-  ⊎_elim (λ (q : (kept_at k d).role ≡ NoRole). inl (old_is ∙ q)) (λ (q : ((kept_at k d).role ≡ new) × (new ≢ SlotRole)). inr (old_is ∙ q.0)) was,
   ap Some (sym (ap (λ (y : Kept). y.value) here)),
   (λ e. subst (LeadsTo (kept_at (stored d x k))) (sym (ap (λ (y : Kept). y.value) here)) (leads_on (kept_at k) (kept_at (stored d x k)) x (role_kept k d (record (kept_at k d) { value = x }) inside refl) (leads e))),
 )
@@ -141,14 +136,14 @@ set_ready d x lazy old new k k1 k2 low r long locked is old_is some_role was lea
 twice : (k : KeeperView) (d : ℕ) (x y : Kept) → with_kept d y (with_kept d x k) ≡ with_kept d y k
 twice k d x y i = record k { words = set_twice k.words d x y i }
 
-pub sets : (d x lazy n : ℕ) (old new : Role) (k k1 k2 k3 : KeeperView) → d < doublewords → IsResting k → IsLong k1 → k1 ≡ has_locked d k → k2 ≡ keeper_after (kinds.Store d x) k1 x
-    → k3 ≡ keeper_after (kinds.Unlock d old new lazy) k2 n → k3 ≡ set_as d x new lazy k
+pub sets : (d x lazy n : ℕ) (role : Role) (k k1 k2 k3 : KeeperView) → d < doublewords → IsResting k → IsLong k1 → k1 ≡ has_locked d k → k2 ≡ keeper_after (kinds.Store d x) k1 x
+    → k3 ≡ keeper_after (kinds.Unlock d role lazy) k2 n → k3 ≡ set_as d x role lazy k
 unfolding stored
-sets d x lazy n old new k k1 k2 k3 low r long locked is now =
-    now ∙ (ap (λ k. keeper_after (kinds.Unlock d old new lazy) k n) (stores d x k k1 k2 r locked is)
-    ∙ (ap (λ v. accessing nothing_locked (heeding (with_kept d (record { role = new; value = v; lazy = lazy; since = length k.events; fixed = None }) (with_kept d (record (kept_at k d) { value = x }) k)))) (ap (λ (y : Kept). y.value) here)
-    ∙ (ap (λ k. accessing nothing_locked (heeding k)) (twice k d (record (kept_at k d) { value = x }) (record { role = new; value = x; lazy = lazy; since = length k.events; fixed = None }))
-    ∙ ap (λ q. with_kept d (record { role = new; value = x; lazy = lazy; since = length k.events; fixed = None }) q) (rests k r))))
+sets d x lazy n role k k1 k2 k3 low r long locked is now =
+    now ∙ (ap (λ k. keeper_after (kinds.Unlock d role lazy) k n) (stores d x k k1 k2 r locked is)
+    ∙ (ap (λ v. accessing nothing_locked (heeding (with_kept d (record { role = role; value = v; lazy = lazy; since = length k.events; fixed = None }) (with_kept d (record (kept_at k d) { value = x }) k)))) (ap (λ (y : Kept). y.value) here)
+    ∙ (ap (λ k. accessing nothing_locked (heeding k)) (twice k d (record (kept_at k d) { value = x }) (record { role = role; value = x; lazy = lazy; since = length k.events; fixed = None }))
+    ∙ ap (λ q. with_kept d (record { role = role; value = x; lazy = lazy; since = length k.events; fixed = None }) q) (rests k r))))
   where
     here : kept_at (with_kept d (record (kept_at k d) { value = x }) k) d ≡ record (kept_at k d) { value = x }
     here = kept_here k d (record (kept_at k d) { value = x }) (subst (λ n. d < n) (sym (long_first d k k1 locked long)) low)

@@ -1,6 +1,6 @@
 //! How the keeper changes a doubleword: it locks it, stores, and unlocks it with a role.
 
-ghost use Rattle.std.specs.Prelude.{◌≡◌, ◌≢◌, ◌⊎◌, ◌%◌, ◌<◌, IfErr, IfOk, Some};
+ghost use Rattle.std.specs.Prelude.{◌≡◌, ◌≢◌, ◌%◌, ◌<◌, IfErr, IfOk, IsOk};
 ghost use Rattle.ld_base.specs.declared.linking.Role.TheVariants.{None as NoRole, Rw, Slot as SlotRole};
 ghost use Rattle.word_rule.specs.Allowed.{LeadsTo, NothingEnters};
 ghost use Rattle.word_rule.specs.KeeperSteps.{Unposted, retired};
@@ -58,13 +58,11 @@ fn lock<J: Naming>(memory: &Memory<J>, desk: &mut Desk<J>, at: usize) -> Result<
     Ok(role_of(control))
 }
 
-/// Gives a doubleword a value and a role, and a slot its lazy word. The role that it has is none or the
-/// same one.
+/// Gives a doubleword that has no role a value and a role, and a slot its lazy word.
 ///
 /// # Errors
 ///
-/// What shows that another seat has locked it: its role is RW then. Nothing is changed, but that the
-/// keeper's view has it behind what was shown before.
+/// None comes, since no other seat locks a doubleword without a role.
 #[tactic(auto, using(crate::proofs::WordKeeping::Held::set_ready, crate::proofs::WordKeeping::Held::sets))]
 pub fn set<J: Naming>(
     memory: &Memory<J>,
@@ -76,25 +74,22 @@ pub fn set<J: Naming>(
 ) -> Result<(), Shown>
     requires at { at < doublewords }
     requires resting { IsResting desk.old }
+    requires fresh { (kept_at desk.old at).role ≡ NoRole }
     requires some_role { role ≢ NoRole }
-    requires was { ((kept_at desk.old at).role ≡ NoRole) ⊎ (((kept_at desk.old at).role ≡ role) × (role ≢ SlotRole)) }
     requires leads { role ≡ SlotRole → LeadsTo (kept_at desk.old) value }
-    ensures ok { IfOk result (λ _. desk.new ≡ set_as at value role lazy desk.old) }
-    ensures seen { IfErr result (λ shown. desk.new ≡ was_shown at shown desk.old) }
-    ensures shown { IfErr result IsShown }
-    ensures writable { IfErr result (λ shown. (kept_at desk.old at).role ≡ Rw) }
+    ensures set { desk.new ≡ set_as at value role lazy desk.old }
+    ensures ok { IsOk result }
     ensures long { IsLong desk.old }
 {
-    let old = lock(memory, desk, at)?;
+    lock(memory, desk, at)?;
     desk.store_word(
         memory,
         value_word(at),
         value,
         KeeperKind::Store(at as u64, value),
     );
-    let kind = KeeperKind::Unlock(at as u64, old, role, lazy);
-    let more = LOCK + code_of(role) - code_of(old);
-    desk.add_word(memory, control_word(at), more, kind);
+    let kind = KeeperKind::Unlock(at as u64, role, lazy);
+    desk.add_word(memory, control_word(at), LOCK + code_of(role), kind);
     Ok(())
 }
 

@@ -1,10 +1,9 @@
 -- A new memory, step by step.
-use Rattle.std.proofs.Common.{◌≡◌, ◌≢◌, inl, ℕ, suc, ◌+◌, ◌*◌, ◌<◌, true, false, cond, [], ◌∷◌, ◌++◌, length, None as Nothing, Result, Ok, Err, IfOk, IfErr, sym, ap, subst, ◌∙◌, arith}
+use Rattle.std.proofs.Common.{◌≡◌, ◌≢◌, ℕ, suc, ◌+◌, ◌*◌, ◌<◌, true, false, cond, [], ◌∷◌, ◌++◌, length, None as Nothing, sym, ap, subst, ◌∙◌, arith}
 use Rattle.std.proofs.lemmas.Bool.Decides.{nat_tests}
 use mathlib.Core.Logic.{dite}
 use native.Mathlib.Decide.{ℕ_discrete}
-use Rattle.ld_base.specs.declared.fault.Shown.{Shown}
-use Rattle.ld_base.specs.declared.linking.Role.TheVariants.{None as NoRole, Rx, Rw, Slot as SlotRole}
+use Rattle.ld_base.specs.declared.linking.Role.TheVariants.{None as NoRole, Rx, Slot as SlotRole}
 use Rattle.word_rule.specs.declared.view.KeeperView.{KeeperView}
 use Rattle.word_rule.specs.declared.view.Kept.{Kept}
 use Rattle.word_rule.specs.Layout.{doublewords, place_of}
@@ -48,8 +47,8 @@ no_role k i low made = made.words (place_of (linker_page + 8 * i)) ∙ ap (λ b.
 pub page_set : (k : KeeperView) (i address : ℕ) → i < 512 → address ≡ linker_page + 8 * i → IsMade k i 0 → MaySet k address 0x0010007300100073 Rx
 page_set k i address low is made = subst (λ a. MaySet k a 0x0010007300100073 Rx) (sym is) (record {
   at = ((omega arith, page_low i low), omega arith);
+  fresh = ap (λ (x : Kept). x.role) (no_role k i low made);
   some_role = λ e. let q : Rx ≡ NoRole = e in absurd (cc);
-  was = inl (ap (λ (x : Kept). x.role) (no_role k i low made));
   leads = λ e. let q : Rx ≡ SlotRole = e in absurd (cc);
 })
 
@@ -82,10 +81,9 @@ page_more k k' i address low is made inside now = subst (λ k. IsMade k (i + 1) 
     others : (d : ℕ) → d ≢ place_of linker_page + i → in_linker_page i d ≡ in_linker_page (i + 1) d
     others d apart = grind (arith, nat_tests)
 
--- a doubleword without a role is not one that harts write
-pub page_free : (k : KeeperView) (i address : ℕ) → i < 512 → address ≡ linker_page + 8 * i → IsMade k i 0 → (kept_at k (place_of address)).role ≢ Rw
-page_free k i address low is made rw =
-    let q : NoRole ≡ Rw = sym (ap (λ (x : Kept). x.role) (ap (λ a. kept_at k (place_of a)) is ∙ no_role k i low made)) ∙ rw in absurd (cc)
+-- the keeper knows of each doubleword of the page
+pub page_within : (k : KeeperView) (i address : ℕ) → i < 512 → address ≡ linker_page + 8 * i → IsLong k → place_of address < length k.words
+page_within k i address low is long = subst (λ n. place_of address < n) (sym long.0) (subst (λ a. place_of a < doublewords) (sym is) (page_low i low))
 
 pub hart_more : (k k' : KeeperView) (n : ℕ) → IsMade k 512 n → k' ≡ record k { harts = k.harts + 1 } → IsMade k' 512 (n + 1)
 hart_more k k' n made now = subst (λ k. IsMade k 512 (n + 1)) (sym now) (record {
@@ -101,9 +99,3 @@ hart_more k k' n made now = subst (λ k. IsMade k 512 (n + 1)) (sym now) (record
 
 pub new_more : (n : ℕ) → new_harts (n + 1) ≡ new_harts n ++ first_hart n ∷ []
 new_more n = let e : n + 1 ≡ suc n = omega arith in ap new_harts e
-
--- a word of the page is set, since no hart can have locked it
-pub page_done : (k k' : KeeperView) (i address : ℕ) (r : Result Unit Shown) → i < 512 → address ≡ linker_page + 8 * i → IsMade k i 0 → IsLong k
-    → IfOk r (λ _. k' ≡ set_as (place_of address) 0x0010007300100073 Rx 0 k) → IfErr r (λ _. (kept_at k (place_of address)).role ≡ Rw) → IsMade k' (i + 1) 0
-page_done k k' i address (Ok t) low is made long ok err = page_more k k' i address low is made (subst (λ n. place_of address < n) (sym long.0) (subst (λ a. place_of a < doublewords) (sym is) (page_low i low))) ok
-page_done k k' i address (Err shown) low is made long ok err = absurd (page_free k i address low is made err)

@@ -57,7 +57,7 @@ first_row m = record {
 first_words_part : Words (λ i. 0) (λ d. unmapped) nothing_locked (λ m. nothing_locked)
 first_words_part = record {
   owner = λ d. nobody;
-  each_word = λ d low. record { role = omega arith; free = λ _. omega arith; taken = λ e. absurd (e refl); holds = λ _. tt };
+  each_word = λ d low. record { role = omega arith; free = λ _. omega arith; taken = λ e. absurd (e refl); holds = tt };
   keepers = no_lock keeper (λ e. absurd (cc));
   of_hart = λ m. no_lock (hart m) (λ e. absurd (cc));
   only_rw = λ m d e. let q : None ≡ Some d = e in absurd (cc);
@@ -113,6 +113,7 @@ first_parts = record {
   slots = subst (λ (p : (ℕ → ℕ) × (ℕ → Kept) × (ℕ → Row)). Slots p.0 p.1 None 0 p.2 (λ m. None) (λ m. [])) (λ i. (words i, knowledge i, rows i)) first_slots;
   generations = subst (λ (p : (ℕ → ℕ) × (ℕ → Row)). Generations p.0 0 p.1 (λ m. [])) (λ i. (words i, rows i)) (record { current = refl; issued = λ m few e c. absurd (nothing e c); kept = λ m few. tt; read = λ m few. none_read 0 });
   losses = λ x there. absurd (nothing x there);
+  fetches = record { looked = λ m d control e rx. let q : None ≡ Some (d, control) = e in absurd (cc); fetched = λ m a bits c. absurd (nothing _ c) };
 }
   where
     words : (λ i. 0) ≡ slice_index first_words

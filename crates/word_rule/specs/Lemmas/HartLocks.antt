@@ -117,7 +117,7 @@ module _ (word : ℕ → ℕ) (known : ℕ → Kept) (access : Access) (harts : 
         role = at.role;
         free = λ e. absurd (cc);
         taken = λ _. at.taken (λ e. let q : hart m ≡ nobody = sym place.1 ∙ e in absurd (cc));
-        holds = λ e. absurd (cc);
+        holds = subst (λ r. Holds r (known d).value (word' (value_at d))) (sym writable) tt;
       }))
       (record {
         owns = λ e here. dite (ℕ_discrete e d) (λ (s : e ≡ d). is ∙ ap Some (sym s)) (λ (apart : e ≢ d).

@@ -13,10 +13,12 @@ use Rattle.word_rule.specs.declared.view.Kept.{Kept}
 use Rattle.word_rule.specs.declared.view.HartView.{HartView}
 use Rattle.word_rule.specs.declared.view.KeeperView.{KeeperView}
 use Rattle.word_rule.specs.declared.view.Lane.{Lane}
+use Rattle.word_rule.specs.declared.view.Retired.{Retired}
 use Rattle.word_rule.specs.declared.view.Row.{Row}
 use Rattle.word_rule.specs.declared.view.Slip.{Slip}
 use Rattle.word_rule.specs.declared.view.Slip.TheVariants.{OfHart, OfKeeper}
 use Rattle.word_rule.specs.declared.view.Told.{Told}
+use Rattle.word_rule.specs.declared.view.TrailItem.{TrailItem}
 use Rattle.word_rule.specs.declared.view.View.{View}
 use Rattle.word_rule.specs.declared.view.View.TheVariants.{Keeper, Hart, Note, Spent}
 use Rattle.word_rule.specs.Layout.{harts_at_most}
@@ -27,6 +29,7 @@ use Rattle.word_rule.specs.Calls.{Calls, RowIs}
 use Rattle.word_rule.specs.Words.{Words}
 use Rattle.word_rule.specs.Slots.{AreLosses, Slots}
 use Rattle.word_rule.specs.Generations.{Generations}
+use Rattle.word_rule.specs.Fetches.{Fetches}
 use Rattle.word_rule.specs.Rule.{IsGuest, Parts}
 use Rattle.word_rule.specs.Joining.{HasNote, HasRoom, JoinKeeps, MayTake, new_hart, note_of, SplitKeeps, takes_in, with_hart}
 use Rattle.word_rule.specs.Lemmas.Put.{field_stays, put_else, put_each, put_here}
@@ -256,8 +259,8 @@ take_hart views k keeper seat_of hart other h numbered apart there s = record {
 
 -- ---- the parts, where they read nothing that changes
 
-same_parts : (word : ℕ → ℕ) (k k' : KeeperView) (hart : ℕ → HartView) → k'.words ≡ k.words → k'.events ≡ k.events → k'.rows ≡ k.rows → k'.access ≡ k.access → k'.generation ≡ k.generation → k'.losses ≡ k.losses → Parts word k hart → Parts word k' hart
-same_parts word k k' hart words events rows access generation losses p = record {
+same_parts : (word : ℕ → ℕ) (k k' : KeeperView) (hart : ℕ → HartView) → k'.words ≡ k.words → k'.events ≡ k.events → k'.rows ≡ k.rows → k'.access ≡ k.access → k'.generation ≡ k.generation → k'.losses ≡ k.losses → k'.retired ≡ k.retired → Parts word k hart → Parts word k' hart
+same_parts word k k' hart words events rows access generation losses gone p = record {
   heard = subst (λ l. Heard l hart) (sym events) p.heard;
   locks = subst (λ (q : List Kept × Access). Words word (λ d. slice_index_or q.0 d unmapped) q.1 (after (λ (h : HartView). h.access) hart)) (λ i. (sym words i, sym access i)) p.locks;
   calls = subst (λ (q : List Event × List Row). Calls word (length q.0) (λ m. slice_index_or q.1 m no_row) (after (λ (h : HartView). h.lane) hart) (after (λ (h : HartView). entries_of h.trail) hart)) (λ i. (sym events i, sym rows i)) p.calls;
@@ -265,6 +268,7 @@ same_parts word k k' hart words events rows access generation losses p = record 
       (λ i. (sym words i, sym access i, sym events i, sym rows i)) p.slots;
   losses = subst (λ l. AreLosses l (after (λ (h : HartView). exchanges_of h.trail) hart)) (sym losses) p.losses;
   generations = subst (λ (q : ℕ × List Row). Generations word q.0 (λ m. slice_index_or q.1 m no_row) (after (λ (h : HartView). h.trail) hart)) (λ i. (sym generation i, sym rows i)) p.generations;
+  fetches = subst (λ (q : List Kept × List Retired). Fetches (λ d. slice_index_or q.0 d unmapped) q.1 (after (λ (h : HartView). h.access) hart) (after (λ (h : HartView). h.trail) hart)) (λ i. (sym words i, sym gone i)) p.fetches;
 }
 
 told_parts : (word : ℕ → ℕ) (k : KeeperView) (hart : ℕ → HartView) (m : ℕ) (h' : HartView) → (hart m).access ≡ h'.access → (hart m).lane ≡ h'.lane → (hart m).trail ≡ h'.trail → HartFits k.events m h' → Parts word k hart → Parts word k (put hart m h')
@@ -276,6 +280,7 @@ told_parts word k hart m h' access lane trail fits p = record {
       (λ i. (field_stays (λ (h : HartView). h.lane.tried) hart m h' (ap (λ (l : Lane). l.tried) lane) i, field_stays (λ (h : HartView). exchanges_of h.trail) hart m h' (ap exchanges_of trail) i)) p.slots;
   losses = subst (λ f. AreLosses k.losses f) (field_stays (λ (h : HartView). exchanges_of h.trail) hart m h' (ap exchanges_of trail)) p.losses;
   generations = subst (λ f. Generations word k.generation (row_of k) f) (field_stays (λ (h : HartView). h.trail) hart m h' trail) p.generations;
+  fetches = subst (λ (q : (ℕ → Access) × (ℕ → List TrailItem)). Fetches (kept_at k) k.retired q.0 q.1) (λ i. (field_stays (λ (h : HartView). h.access) hart m h' access i, field_stays (λ (h : HartView). h.trail) hart m h' trail i)) p.fetches;
 }
 
 -- ---- the rule
@@ -292,7 +297,7 @@ made_keeps seat (Keeper k) room words views g at = record {
   wide = g.wide;
   seats = subst (λ i. Seats (set views i (Keeper (record k { harts = k.harts + 1 })) ++ Hart (first_hart k.harts) ∷ []) (record k { harts = k.harts + 1 }) g.keeper (put g.seat_of k.harts (length views)) g.hart) (sym fits.1)
       (add_hart views k g.keeper g.seat_of g.hart room (subst (λ k. Seats views k g.keeper g.seat_of g.hart) (sym fits.0) g.seats));
-  parts = same_parts (slice_index words) k (record k { harts = k.harts + 1 }) g.hart refl refl refl refl refl refl (subst (λ k. Parts (slice_index words) k g.hart) (sym fits.0) g.parts);
+  parts = same_parts (slice_index words) k (record k { harts = k.harts + 1 }) g.hart refl refl refl refl refl refl refl (subst (λ k. Parts (slice_index words) k g.hart) (sym fits.0) g.parts);
 }
   where
     fits : Fits g.kept g.keeper g.seat_of g.hart seat (Keeper k)
@@ -344,7 +349,7 @@ join_keeps seat (Keeper k) other (Hart h) may words views g at apart there =
       wide = g.wide;
       seats = subst (λ i. Seats (set (set views i (Keeper k')) other Spent) k' g.keeper (put g.seat_of h.number g.keeper) g.hart) (sym fits.1)
           (take_hart views k g.keeper g.seat_of g.hart other h (λ m. (g.parts.heard m).numbered) (λ e. apart (e ∙ sym fits.1)) was (subst (λ k. Seats views k g.keeper g.seat_of g.hart) (sym fits.0) g.seats));
-      parts = same_parts (slice_index words) k k' g.hart refl refl refl refl refl refl (subst (λ k. Parts (slice_index words) k g.hart) (sym fits.0) g.parts);
+      parts = same_parts (slice_index words) k k' g.hart refl refl refl refl refl refl refl (subst (λ k. Parts (slice_index words) k g.hart) (sym fits.0) g.parts);
     }
 join_keeps seat (Keeper k) other (Note events (OfHart m entries readings)) may words views g at apart there =
     let t : Told = record { had = k.events; told = events; number = m; entries = entries; readings = readings; lazy = 0 } in
@@ -363,7 +368,7 @@ join_keeps seat (Keeper k) other (Note events (OfHart m entries readings)) may w
           (spend (set views g.keeper (Keeper k')) k' g.keeper g.seat_of g.hart other (λ e. apart (sym e ∙ sym fits.1))
           (λ h q. let z : Note events (OfHart m entries readings) ≡ Hart h = some-injective (Note events (OfHart m entries readings)) (Hart h) (sym there' ∙ q) in absurd (cc))
           (keeps_note views k g.keeper g.seat_of g.hart t (note.0, note.1.0, note.1.1) seats));
-      parts = same_parts (slice_index words) k k' g.hart refl refl refl refl refl refl (subst (λ k. Parts (slice_index words) k g.hart) (sym fits.0) g.parts);
+      parts = same_parts (slice_index words) k k' g.hart refl refl refl refl refl refl refl (subst (λ k. Parts (slice_index words) k g.hart) (sym fits.0) g.parts);
     }
 join_keeps seat (Hart h) other (Note events (OfKeeper rows)) may words views g at apart there =
     let before : Row = slice_index_or rows h.number no_row in

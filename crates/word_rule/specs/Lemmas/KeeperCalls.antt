@@ -268,7 +268,7 @@ module _ (word : ℕ → ℕ) (k : KeeperView) (lane : ℕ → Lane) (entries : 
       let x : ℕ = becomes (keeper_op (kinds.Lock d control)) (word (control_at d)) in
       kept_rows d x (eqb (word (control_at d)) control) (put word (control_at d) x) (at_control d x)
   keeper_calls (kinds.Store d x) ready = at_value d x
-  keeper_calls (kinds.Unlock d old new lazy) ready = at_control d (becomes (keeper_op (kinds.Unlock d old new lazy)) (word (control_at d)))
+  keeper_calls (kinds.Unlock d role lazy) ready = at_control d (becomes (keeper_op (kinds.Unlock d role lazy)) (word (control_at d)))
   keeper_calls (kinds.Count e) ready = subst (λ n. Calls (put word 2 ((word 2 + 1) % 18446744073709551616)) n (row_of k) lane entries) (sym (length-append k.events (e.value ∷ []))) (counts ready)
   keeper_calls (kinds.Await m) ready = unmoved word (state_at m) (λ f. After f (awaited_if m (nat_le 8 (word (state_at m))) (heeding k))) (awaits m (nat_le 8 (word (state_at m))) ready refl)
   keeper_calls (kinds.Ask m) ready =

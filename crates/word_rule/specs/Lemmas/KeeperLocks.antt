@@ -33,7 +33,7 @@ seen_words word known known' a harts same w = record {
     role = o.role ∙ ap (λ (x : Kept). role_code x.role) (sym (same d));
     free = o.free;
     taken = o.taken;
-    holds = λ e. subst (λ (x : Kept). Holds x.role x.value (word (value_at d))) (sym (same d)) (o.holds e);
+    holds = subst (λ (x : Kept). Holds x.role x.value (word (value_at d))) (sym (same d)) o.holds;
   };
   keepers = w.keepers;
   of_hart = w.of_hart;
@@ -97,9 +97,9 @@ module _ (word : ℕ → ℕ) (k : KeeperView) (harts : ℕ → Access) (w : Wor
   taken d is e = let q : keeper ≡ nobody = sym (place d is).1 ∙ e in absurd (cc)
 
   -- the value of the doubleword that the keeper has locked changes
-  stores : (d x : ℕ) → k.access.locked ≡ Some d
+  stores : (d x : ℕ) → k.access.locked ≡ Some d → (kept_at k d).role ≡ NoRole
       → Words (put word (value_at d) x) (λ j. slice_index_or (slice_set k.words d (record (kept_at k d) { value = x })) j unmapped) (record { locked = k.access.locked; held = Some x; last = None }) harts
-  stores d x is =
+  stores d x is free =
       let word' : ℕ → ℕ = put word (value_at d) x in
       let k' : Kept = record (kept_at k d) { value = x } in
       let b : Access = record { locked = k.access.locked; held = Some x; last = None } in
@@ -111,7 +111,7 @@ module _ (word : ℕ → ℕ) (k : KeeperView) (harts : ℕ → Access) (w : Wor
         role = at.role;
         free = λ e. absurd (cc);
         taken = λ _. at.taken (taken d is);
-        holds = λ e. absurd (cc);
+        holds = subst (λ r. Holds r x (word' (value_at d))) (sym free) tt;
       }))
       (record {
         owns = λ e here. dite (ℕ_discrete e d) (λ (s : e ≡ d). is ∙ ap Some (sym s)) (λ (apart : e ≢ d). w.keepers.owns e (sym (put_else w.owner d keeper e apart) ∙ here));
@@ -162,12 +162,12 @@ module _ (word : ℕ → ℕ) (k : KeeperView) (harts : ℕ → Access) (w : Wor
   keeper_locks (kinds.Look d) small ready = unmoved word (control_at d) (λ f. Words f (kept_at k) (record { locked = None; held = None; last = last_if d (word (control_at d)) (eqb (lock_bit (word (control_at d))) 0) }) harts) (looks d (eqb (lock_bit (word (control_at d))) 0) ready.1)
   keeper_locks (kinds.Load d) small ready = unmoved word (value_at d) (λ f. Words f (kept_at k) nothing_locked harts) (unlocked nothing_locked ready.1 refl (forgets nothing_locked refl))
   keeper_locks (kinds.Lock d control) small ready = locks d control ready.0 ready.1 ready.3 (eqb (word (control_at d)) control) refl
-  keeper_locks (kinds.Store d x) small ready = stores d x ready.0
-  keeper_locks (kinds.Unlock d old new lazy) small ready =
-      let k' : Kept = record { role = new; value = (kept_at k d).value; lazy = lazy; since = length k.events; fixed = None } in
+  keeper_locks (kinds.Store d x) small ready = stores d x ready.0 ready.1
+  keeper_locks (kinds.Unlock d role lazy) small ready =
+      let k' : Kept = record { role = role; value = (kept_at k d).value; lazy = lazy; since = length k.events; fixed = None } in
       let c : ℕ = word (control_at d) in
-      subst (λ (r : Role). Words (put word (control_at d) ((c + (8 + role_code new - role_code r)) % 18446744073709551616)) (λ j. slice_index_or (slice_set k.words d k') j unmapped) nothing_locked harts) (sym ready.1)
-      (unlocks d k' ready.0 small (stands new (word (value_at d)) (kept_at k d).value (w.keepers.held d (kept_at k d).value ready.0 ready.5)))
+      subst (λ (r : Role). Words (put word (control_at d) ((c + (8 + role_code role - role_code r)) % 18446744073709551616)) (λ j. slice_index_or (slice_set k.words d k') j unmapped) nothing_locked harts) ready.1
+      (unlocks d k' ready.0 small (stands role (word (value_at d)) (kept_at k d).value (w.keepers.held d (kept_at k d).value ready.0 ready.3)))
   keeper_locks (kinds.Count e) small ready = below 2 ((word 2 + 1) % 18446744073709551616) (omega arith)
   keeper_locks (kinds.Await m) small ready = awaited_same (λ f b. Words (put word (state_at m) (word (state_at m))) f b harts) m (nat_le 8 (word (state_at m))) k (below (state_at m) (word (state_at m)) (low_row m 0 ready (omega arith)))
   keeper_locks (kinds.Ask m) small ready = below (state_at m) (word (state_at m)) (low_row m 0 ready.0 (omega arith))
@@ -213,9 +213,7 @@ module _ (word : ℕ → ℕ) (k : KeeperView) (harts : ℕ → Access) (w : Wor
   value_tells SlotRole value known is h = ⊎_elim (λ (e : SlotRole ≡ Ro). absurd (cc)) (λ (e : SlotRole ≡ Rx). absurd (cc)) is
 
   pub load_tells : (d : ℕ) → KeeperReady (kinds.Load d) k → KeeperLearns (kinds.Load d) k (word (value_at d))
-  load_tells d ready is =
-      let other : (kept_at k d).role ≢ Rw = λ rw. ⊎_elim (λ (e : (kept_at k d).role ≡ Ro). let q : Ro ≡ Rw = sym e ∙ rw in absurd (cc)) (λ (e : (kept_at k d).role ≡ Rx). let q : Rx ≡ Rw = sym e ∙ rw in absurd (cc)) is in
-      value_tells (kept_at k d).role (word (value_at d)) (kept_at k d).value is ((w.each_word d ready.0).holds (unowned d ready.1 other (w.owner d) refl))
+  load_tells d ready is = value_tells (kept_at k d).role (word (value_at d)) (kept_at k d).value is (w.each_word d ready.0).holds
 
   pub lock_tells : (d control : ℕ) → KeeperReady (kinds.Lock d control) k → KeeperLearns (kinds.Lock d control) k (word (control_at d))
   lock_tells d control ready other = w.steady d control ready.0 ready.2 other

@@ -607,20 +607,25 @@ module _ (word : ℕ → ℕ) (k : KeeperView) (tried : ℕ → Option Exchange)
   freed : (word' : ℕ → ℕ) → SameSlots word word' (kept_at k) → Slots word' (kept_at k) None (length k.events) (row_of k) tried exchanges
   freed word' same = relocked word' None same (λ m g few e here. nothing (place_of g.entry.slot))
 
-  held_role : (d : ℕ) (old new : Role) → old ≡ (kept_at k d).role → (old ≡ NoRole) ⊎ (old ≡ new) → (kept_at k d).role ≡ Rx → new ≡ Rx
-  held_role d old new is why rx = ⊎_elim (λ (none' : old ≡ NoRole). let q : NoRole ≡ Rx = sym none' ∙ (is ∙ rx) in absurd (cc)) (λ (same : old ≡ new). sym same ∙ (is ∙ rx)) why
+  -- a doubleword without a role is no slot, and none that may be run
+  no_slot_there : (d : ℕ) → (kept_at k d).role ≡ NoRole → (kept_at k d).role ≢ SlotRole
+  no_slot_there d free slot = let q : NoRole ≡ SlotRole = sym free ∙ slot in absurd (cc)
 
-  unlock : (d x : ℕ) (old new : Role) (lazy : ℕ) → word (value_at d) ≡ (kept_at k d).value → KeeperReady (kinds.Unlock d old new lazy) k → d < doublewords
-      → Slots (put word (control_at d) x) (λ j. slice_index_or (slice_set k.words d (record { role = new; value = (kept_at k d).value; lazy = lazy; since = length k.events; fixed = None })) j unmapped) None (length k.events) (row_of k) tried exchanges
-  unlock d x old NoRole lazy value ready low = absurd (ready.3 refl)
-  unlock d x old Ro lazy value ready low = unlocks d x (record { role = Ro; value = (kept_at k d).value; lazy = lazy; since = length k.events; fixed = None }) low ready.0 (λ e. absurd (cc)) (λ e v here a. inl (held_role d old Ro ready.1 ready.4))
-  unlock d x old Rx lazy value ready low = unlocks d x (record { role = Rx; value = (kept_at k d).value; lazy = lazy; since = length k.events; fixed = None }) low ready.0 (λ e. absurd (cc)) (λ e v here a. inl (held_role d old Rx ready.1 ready.4))
-  unlock d x old Rw lazy value ready low = unlocks d x (record { role = Rw; value = (kept_at k d).value; lazy = lazy; since = length k.events; fixed = None }) low ready.0 (λ e. absurd (cc)) (λ e v here a. inl (held_role d old Rw ready.1 ready.4))
-  unlock d x old SlotRole lazy value ready low =
+  no_code_there : (d : ℕ) → (kept_at k d).role ≡ NoRole → (kept_at k d).role ≢ Rx
+  no_code_there d free rx = let q : NoRole ≡ Rx = sym free ∙ rx in absurd (cc)
+
+  unlock : (d x : ℕ) (role : Role) (lazy : ℕ) → word (value_at d) ≡ (kept_at k d).value → KeeperReady (kinds.Unlock d role lazy) k → d < doublewords
+      → Slots (put word (control_at d) x) (λ j. slice_index_or (slice_set k.words d (record { role = role; value = (kept_at k d).value; lazy = lazy; since = length k.events; fixed = None })) j unmapped) None (length k.events) (row_of k) tried exchanges
+  unlock d x NoRole lazy value ready low = absurd (ready.2 refl)
+  unlock d x Ro lazy value ready low =
+      unlocks d x (record { role = Ro; value = (kept_at k d).value; lazy = lazy; since = length k.events; fixed = None }) low ready.0 (λ e. absurd (cc)) (λ e v here a. inl (λ rx. absurd (no_code_there d ready.1 rx)))
+  unlock d x Rx lazy value ready low =
+      unlocks d x (record { role = Rx; value = (kept_at k d).value; lazy = lazy; since = length k.events; fixed = None }) low ready.0 (λ e. absurd (cc)) (λ e v here a. inl (λ rx. absurd (no_code_there d ready.1 rx)))
+  unlock d x Rw lazy value ready low =
+      unlocks d x (record { role = Rw; value = (kept_at k d).value; lazy = lazy; since = length k.events; fixed = None }) low ready.0 (λ e. absurd (cc)) (λ e v here a. inl (λ rx. absurd (no_code_there d ready.1 rx)))
+  unlock d x SlotRole lazy value ready low =
       let k' : Kept = record { role = SlotRole; value = (kept_at k d).value; lazy = lazy; since = length k.events; fixed = None } in
-      let none' : (kept_at k d).role ≡ NoRole = ⊎_elim (λ (e : old ≡ NoRole). sym ready.1 ∙ e) (λ (e : old ≡ SlotRole). absurd (ready.2 e)) ready.4 in
-      moved d k' (put word (control_at d) x) None low
-      (new_slot d x k' low ready.0 (λ e. let q : NoRole ≡ SlotRole = sym none' ∙ e in absurd (cc)) (λ e. let q : NoRole ≡ Rx = sym none' ∙ e in absurd (cc)) refl refl refl value (ready.6 refl))
+      moved d k' (put word (control_at d) x) None low (new_slot d x k' low ready.0 (no_slot_there d ready.1) (no_code_there d ready.1) refl refl refl value (ready.4 refl))
 
   -- a slot is looked at
   sees : (d : ℕ) → IsSlot (kept_at k) d
@@ -662,8 +667,8 @@ module _ (word : ℕ → ℕ) (k : KeeperView) (tried : ℕ → Option Exchange)
   keeper_slots place held still (kinds.Look d) ready = freed (put word (control_at d) (word (control_at d))) (at_control d (word (control_at d)))
   keeper_slots place held still (kinds.Load d) ready = freed (put word (value_at d) (word (value_at d))) (same_word (value_at d))
   keeper_slots place held still (kinds.Lock d control) ready = locks d (becomes (keeper_op (kinds.Lock d control)) (word (control_at d))) (eqb (word (control_at d)) control) ready.4
-  keeper_slots place held still (kinds.Store d x) ready = stores d x (place d ready.0) ready.0 ready.1
-  keeper_slots place held still (kinds.Unlock d old new lazy) ready = unlock d (becomes (keeper_op (kinds.Unlock d old new lazy)) (word (control_at d))) old new lazy (held d (kept_at k d).value ready.0 ready.5) ready (place d ready.0)
+  keeper_slots place held still (kinds.Store d x) ready = stores d x (place d ready.0) ready.0 (no_slot_there d ready.1)
+  keeper_slots place held still (kinds.Unlock d role lazy) ready = unlock d (becomes (keeper_op (kinds.Unlock d role lazy)) (word (control_at d))) role lazy (held d (kept_at k d).value ready.0 ready.3) ready (place d ready.0)
   keeper_slots place held still (kinds.Count e) ready = subst (λ n. Slots (put word 2 ((word 2 + 1) % 18446744073709551616)) (kept_at k) k.access.locked n (row_of k) tried exchanges) (sym (length-append k.events (e.value ∷ []))) (counts ((word 2 + 1) % 18446744073709551616))
   keeper_slots place held still (kinds.Await m) ready = unmoved word (state_at m) (λ f. After f (awaited_if m (nat_le 8 (word (state_at m))) (heeding k))) (awaits m (nat_le 8 (word (state_at m))) ready)
   keeper_slots place held still (kinds.Ask m) ready =

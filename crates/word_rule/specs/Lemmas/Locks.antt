@@ -111,7 +111,7 @@ slot_aside word d x known access harts slot free w = record {
 
     slot_word : d < doublewords → WordIs (word' (value_at d)) (word' (control_at d)) (w.owner d) (known d)
     slot_word low = let at = w.each_word d low in subst (λ n. WordIs (word' (value_at d)) n (w.owner d) (known d)) (sym (control_stays d))
-        (record { role = at.role; free = at.free; taken = at.taken; holds = λ _. subst (λ r. Holds r (known d).value (word' (value_at d))) (sym slot) tt })
+        (record { role = at.role; free = at.free; taken = at.taken; holds = subst (λ r. Holds r (known d).value (word' (value_at d))) (sym slot) tt })
 
     lock_stays : (me : Owner) (a : Access) → ((e : ℕ) → a.locked ≡ Some e → e ≢ d) → LockIs word w.owner me a → LockIs word' w.owner me a
     lock_stays me a elsewhere l = record { owns = l.owns; named = l.named; held = λ e y is has. beside.value e (elsewhere e is) ∙ l.held e y is has }
@@ -186,7 +186,7 @@ lock_word v c o me k w free apart = record {
   role = keeps c ∙ w.role;
   free = λ e. absurd (apart e);
   taken = λ _. bit c free;
-  holds = λ e. absurd (apart e);
+  holds = w.holds;
 }
   where
     keeps : (c : ℕ) → (c + 8) % 8 ≡ c % 8
@@ -214,5 +214,5 @@ unlock_word v c o k k' w locked low holds' = record {
   role = unlocked_role c (role_code k.role) (role_code k'.role) w.role (w.taken locked) low (code_low k.role) (code_low k'.role);
   free = λ _. unlocked_bit c (role_code k.role) (role_code k'.role) w.role (w.taken locked) low (code_low k.role) (code_low k'.role);
   taken = λ e. absurd (e refl);
-  holds = λ _. holds';
+  holds = holds';
 }

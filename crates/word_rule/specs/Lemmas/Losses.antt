@@ -51,7 +51,7 @@ module _ (word : ℕ → ℕ) (k : KeeperView) (tried : ℕ → Option Exchange)
   keeper_losses (keeps.Look d) ready = are
   keeper_losses (keeps.Load d) ready = are
   keeper_losses (keeps.Store d x) ready = are
-  keeper_losses (keeps.Unlock d old new lazy) ready = are
+  keeper_losses (keeps.Unlock d role lazy) ready = are
   keeper_losses (keeps.Count e) ready = are
   keeper_losses (keeps.Ask m) ready = are
   keeper_losses (keeps.Fill m i x) ready = are

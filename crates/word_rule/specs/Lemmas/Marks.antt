@@ -151,7 +151,7 @@ module _ (word : ℕ → ℕ) (k : KeeperView) (trail : ℕ → List TrailItem) 
   keeper_marks (keeps.Lock d control) ready = let x : ℕ = becomes (keeper_op (keeps.Lock d control)) (word (control_at d)) in
       kept_if (put word (control_at d) x) d (eqb (word (control_at d)) control) (aside (control_at d) x (λ (e : control_at d ≡ 1). omega arith))
   keeper_marks (keeps.Store d x) ready = aside (value_at d) x (λ (e : value_at d ≡ 1). omega arith)
-  keeper_marks (keeps.Unlock d old new lazy) ready = aside (control_at d) (becomes (keeper_op (keeps.Unlock d old new lazy)) (word (control_at d))) (λ (e : control_at d ≡ 1). omega arith)
+  keeper_marks (keeps.Unlock d role lazy) ready = aside (control_at d) (becomes (keeper_op (keeps.Unlock d role lazy)) (word (control_at d))) (λ (e : control_at d ≡ 1). omega arith)
   keeper_marks (keeps.Count e) ready = aside 2 ((word 2 + 1) % 18446744073709551616) (λ (e : 2 ≡ 1). omega arith)
   keeper_marks (keeps.Await m) ready = awaits m (word (state_at m)) (nat_le 8 (word (state_at m))) ready
   keeper_marks (keeps.Ask m) ready = let n : ℕ = word (state_at m) in

@@ -22,18 +22,17 @@ use Rattle.word_rule.specs.declared.view.Slip.TheVariants.{OfHart, OfKeeper}
 use Rattle.word_rule.specs.declared.view.View.{View}
 use Rattle.word_rule.specs.declared.view.View.TheVariants.{Keeper, Hart, Note, Spent}
 use Rattle.word_rule.specs.Layout.{control_at, count_at, index_of, row_at, state_at, value_at}
-use Rattle.word_rule.specs.Layout.{harts_at_most, lock_bit, place_of, role_code, role_in}
+use Rattle.word_rule.specs.Layout.{doublewords, harts_at_most, lock_bit, place_of, role_code, role_in}
 use Rattle.word_rule.specs.Views.{IsLong, kept_at, row_of, unmapped}
 use Rattle.word_rule.specs.Operations.{load}
 use Rattle.word_rule.specs.HartSteps.{Awaits, HartReady, IsMark, ask_is_fresh, glanced, hart_after, hart_op, hart_word, heeded, locked_if, permits, store_place}
 use Rattle.word_rule.specs.KeeperSteps.{KeeperReady, Waits, awaited_if, fixed_by, heeding, keeper_after, keeper_op, keeper_word, keeps_if, with_kept}
-use Rattle.word_rule.specs.Allowed.{IsSlot}
 use Rattle.word_rule.specs.Calls.{Rests, Stage}
 use Rattle.word_rule.specs.Joining.{MayTake, takes_in}
 use Rattle.word_rule.specs.Seats.{Fits}
 use Rattle.word_rule.specs.Rule.{IsGuest}
 use Rattle.word_rule.specs.Owners.{Grows, HartEnters, IsOfDoubleword, IsOfRow, KeeperEnters, LockedStay, OnlyOwnersChange, OnlyRowsOwnersChange}
-use Rattle.word_rule.specs.Owners.{OnlyTallyCounts, RaisesIfUnlocks, TrailsGrow, UnlocksRaise, IsSameSlot, SlotsStay, trails_of}
+use Rattle.word_rule.specs.Owners.{IsSameWord, OnlyFreshAreStored, OnlyTallyCounts, RaisesIfUnlocks, TrailsGrow, UnlocksRaise, WordsStay, trails_of}
 use Rattle.word_rule.specs.Lemmas.HartCalls.{answered_if, still_if, tried_if}
 use Rattle.word_rule.specs.Lemmas.HartLocks.{low_index}
 use Rattle.word_rule.specs.Lemmas.Heeding.{fixed_same, kept_here, unseen}
@@ -87,7 +86,7 @@ keepers_raise (keepers.Look e) k d n ready at small role = loads_raise n
 keepers_raise (keepers.Load e) k d n ready at small role = loads_raise n
 keepers_raise (keepers.Lock e control) k d n ready at small role = locks_raise control n ready.3
 keepers_raise (keepers.Store e x) k d n ready at small role = absurd (apart e d at)
-keepers_raise (keepers.Unlock e old new lazy) k d n ready at small role = roles_raise old new n small (has_role k e d n old at ready.1 role)
+keepers_raise (keepers.Unlock e given lazy) k d n ready at small role = roles_raise NoRole given n small (has_role k e d n NoRole at (sym ready.1) role)
 keepers_raise (keepers.Count e) k d n ready at small role = absurd (below 2 d (omega arith) (inr at))
 keepers_raise (keepers.Await m) k d n ready at small role = loads_raise n
 keepers_raise (keepers.Ask m) k d n ready at small role = loads_raise n
@@ -128,7 +127,7 @@ keepers_change (keepers.Look e) k d ready acts at = absurd (acts refl)
 keepers_change (keepers.Load e) k d ready acts at = absurd (acts refl)
 keepers_change (keepers.Lock e control) k d ready acts at = inr (same_control d e at)
 keepers_change (keepers.Store e x) k d ready acts at = inl (ready.0 ∙ ap Some (same_value d e at))
-keepers_change (keepers.Unlock e old new lazy) k d ready acts at = inl (ready.0 ∙ ap Some (same_control d e at))
+keepers_change (keepers.Unlock e role lazy) k d ready acts at = inl (ready.0 ∙ ap Some (same_control d e at))
 keepers_change (keepers.Count e) k d ready acts at = absurd (below 2 d (omega arith) at)
 keepers_change (keepers.Await m) k d ready acts at = absurd (acts refl)
 keepers_change (keepers.Ask m) k d ready acts at = absurd (acts refl)
@@ -146,6 +145,30 @@ keepers_change keepers.Listen k d ready acts at = absurd (acts refl)
 
 pub only_owners_change : OnlyOwnersChange
 only_owners_change = ((λ kind h d few ready acts at. harts_change kind h d few ready acts at), (λ kind k d ready acts at. keepers_change kind k d ready acts at))
+
+keepers_store : (kind : KeeperKind) (k : KeeperView) (d : ℕ) → KeeperReady kind k → keeper_op kind ≢ load → keeper_word kind ≡ value_at d → (kept_at k d).role ≡ NoRole
+keepers_store (keepers.Look e) k d ready acts at = absurd (acts refl)
+keepers_store (keepers.Load e) k d ready acts at = absurd (acts refl)
+keepers_store (keepers.Lock e control) k d ready acts at = absurd (apart d e (sym at))
+keepers_store (keepers.Store e x) k d ready acts at = ap (λ i. (kept_at k i).role) (sym (same_value d e (inl at))) ∙ ready.1
+keepers_store (keepers.Unlock e role lazy) k d ready acts at = absurd (apart d e (sym at))
+keepers_store (keepers.Count e) k d ready acts at = absurd (below 2 d (omega arith) (inl at))
+keepers_store (keepers.Await m) k d ready acts at = absurd (acts refl)
+keepers_store (keepers.Ask m) k d ready acts at = absurd (acts refl)
+keepers_store (keepers.Saw e m) k d ready acts at = absurd (acts refl)
+keepers_store (keepers.Fill m i x) k d ready acts at = absurd (in_row m (index_of i) d ready.1.0 (low_index i) (inl at))
+keepers_store (keepers.Hand m mark) k d ready acts at = absurd (in_row m 0 d ready.1.0 (omega arith) (inl at))
+keepers_store (keepers.Open m) k d ready acts at = absurd (in_row m 0 d ready.1.0 (omega arith) (inl at))
+keepers_store (keepers.RetireSlot e) k d ready acts at = absurd (apart d e (sym at))
+keepers_store (keepers.Retire e old) k d ready acts at = absurd (apart d e (sym at))
+keepers_store (keepers.Generation g) k d ready acts at = absurd (below 1 d (omega arith) (inl at))
+keepers_store (keepers.Recall m i) k d ready acts at = absurd (acts refl)
+keepers_store keepers.RecallGeneration k d ready acts at = absurd (acts refl)
+keepers_store (keepers.RecallRole e) k d ready acts at = absurd (acts refl)
+keepers_store keepers.Listen k d ready acts at = absurd (acts refl)
+
+pub only_fresh_are_stored : OnlyFreshAreStored
+only_fresh_are_stored kind k d ready acts at = keepers_store kind k d ready acts at
 
 -- ---- locks that are taken
 
@@ -171,7 +194,7 @@ keepers_rows (keepers.Look e) k m few ready acts at = absurd (acts refl)
 keepers_rows (keepers.Load e) k m few ready acts at = absurd (acts refl)
 keepers_rows (keepers.Lock e control) k m few ready acts at = absurd (above (control_at e) m few (omega arith) at)
 keepers_rows (keepers.Store e x) k m few ready acts at = absurd (above (value_at e) m few (omega arith) at)
-keepers_rows (keepers.Unlock e old new lazy) k m few ready acts at = absurd (above (control_at e) m few (omega arith) at)
+keepers_rows (keepers.Unlock e role lazy) k m few ready acts at = absurd (above (control_at e) m few (omega arith) at)
 keepers_rows (keepers.Count e) k m few ready acts at = absurd (before 2 m (omega arith) at)
 keepers_rows (keepers.Await n) k m few ready acts at = absurd (acts refl)
 keepers_rows (keepers.Ask n) k m few ready acts at = absurd (acts refl)
@@ -306,7 +329,7 @@ joined_stay (keepers.Look d) k n = refl
 joined_stay (keepers.Load d) k n = refl
 joined_stay (keepers.Lock d control) k n = keeps_joined d (eqb n control) (heeding k)
 joined_stay (keepers.Store d x) k n = refl
-joined_stay (keepers.Unlock d old new lazy) k n = refl
+joined_stay (keepers.Unlock d role lazy) k n = refl
 joined_stay (keepers.Count e) k n = refl
 joined_stay (keepers.Await m) k n = awaited_joined m (nat_le 8 n) (heeding k)
 joined_stay (keepers.Ask m) k n = refl
@@ -343,45 +366,48 @@ trails_grow = record {
   taken_in = both_trails;
 }
 
--- ---- slots
+-- ---- doublewords with a role
 
-module _ (k : KeeperView) (d : ℕ) (long : IsLong k) (here : IsSlot (kept_at k) d) where
+module _ (k : KeeperView) (d : ℕ) (long : IsLong k) (low : d < doublewords) (here : (kept_at k d).role ≢ NoRole) where
   abbrev Stays : KeeperView → Type 0
-  Stays k' = IsSlot (kept_at k') d → IsSameSlot (kept_at k d) (kept_at k' d)
+  Stays k' = (kept_at k' d).role ≢ NoRole → IsSameWord (kept_at k d) (kept_at k' d)
 
   same_words : (k' : KeeperView) → k'.words ≡ k.words → Stays k'
   same_words k' e now = ap (λ l. unseen (slice_index_or l d unmapped)) e
 
   -- what is known of one doubleword changes
-  one_word : (e : ℕ) (x : Kept) → (d ≡ e → x.role ≡ SlotRole → unseen x ≡ unseen (kept_at k e)) → Stays (with_kept e x k)
+  one_word : (e : ℕ) (x : Kept) → (d ≡ e → x.role ≢ NoRole → unseen x ≡ unseen (kept_at k e)) → Stays (with_kept e x k)
   one_word e x mine now = dite (ℕ_discrete d e)
       (λ (is : d ≡ e).
-      let low : e < length k.words = subst (λ n. n < length k.words) is (subst (λ n. d < n) (sym long.0) here.0) in
-      let at : kept_at (with_kept e x k) d ≡ x = ap (kept_at (with_kept e x k)) is ∙ kept_here k e x low in
-      ap unseen at ∙ (mine is (subst (λ (y : Kept). y.role ≡ SlotRole) at now.1) ∙ ap (λ n. unseen (kept_at k n)) (sym is)))
+      let inside : e < length k.words = subst (λ n. n < length k.words) is (subst (λ n. d < n) (sym long.0) low) in
+      let at : kept_at (with_kept e x k) d ≡ x = ap (kept_at (with_kept e x k)) is ∙ kept_here k e x inside in
+      ap unseen at ∙ (mine is (subst (λ (y : Kept). y.role ≢ NoRole) at now) ∙ ap (λ n. unseen (kept_at k n)) (sym is)))
       (λ (apart : d ≢ e). ap unseen (set_at k.words e d x unmapped apart))
 
-  same_slot : (kind : KeeperKind) (n : ℕ) → KeeperReady kind k → Stays (keeper_after kind k n)
-  same_slot (keepers.Look e) n ready = λ now. refl
-  same_slot (keepers.Load e) n ready = λ now. refl
-  same_slot (keepers.Lock e control) n ready = same_words (keeper_after (keepers.Lock e control) k n) (keeps_words e (eqb n control) (heeding k))
-  same_slot (keepers.Store e x) n ready = one_word e (record (kept_at k e) { value = x }) (λ is role. absurd (ready.1 role))
-  same_slot (keepers.Unlock e old new lazy) n ready = one_word e (record { role = new; value = (kept_at k e).value; lazy = lazy; since = length k.events; fixed = None })
-      (λ is role. absurd (ready.2 (ready.1 ∙ (ap (λ i. (kept_at k i).role) (sym is) ∙ here.1))))
-  same_slot (keepers.Count e) n ready = λ now. refl
-  same_slot (keepers.Await m) n ready = same_words (keeper_after (keepers.Await m) k n) (awaited_words m (nat_le 8 n) (heeding k))
-  same_slot (keepers.Ask m) n ready = λ now. refl
-  same_slot (keepers.Saw e m) n ready = one_word e (fixed_by n (kept_at k e)) (λ is role. fixed_same n (eqb n (kept_at k e).lazy) (kept_at k e))
-  same_slot (keepers.Fill m i x) n ready = λ now. refl
-  same_slot (keepers.Hand m mark) n ready = λ now. refl
-  same_slot (keepers.Open m) n ready = λ now. refl
-  same_slot (keepers.RetireSlot e) n ready = one_word e (record (kept_at k e) { role = NoRole }) (λ is (role : NoRole ≡ SlotRole). absurd (cc))
-  same_slot (keepers.Retire e old) n ready = one_word e (record (kept_at k e) { role = NoRole }) (λ is (role : NoRole ≡ SlotRole). absurd (cc))
-  same_slot (keepers.Generation g) n ready = λ now. refl
-  same_slot (keepers.Recall m i) n ready = λ now. refl
-  same_slot keepers.RecallGeneration n ready = λ now. refl
-  same_slot (keepers.RecallRole e) n ready = λ now. refl
-  same_slot keepers.Listen n ready = λ now. refl
+  -- one without a role is another
+  free : (e : ℕ) → d ≡ e → (kept_at k e).role ≢ NoRole
+  free e is none' = here (ap (λ i. (kept_at k i).role) is ∙ none')
 
-pub slots_stay : SlotsStay
-slots_stay kind k n d long ready here now = same_slot k d long here kind n ready now
+  same_word : (kind : KeeperKind) (n : ℕ) → KeeperReady kind k → Stays (keeper_after kind k n)
+  same_word (keepers.Look e) n ready = λ now. refl
+  same_word (keepers.Load e) n ready = λ now. refl
+  same_word (keepers.Lock e control) n ready = same_words (keeper_after (keepers.Lock e control) k n) (keeps_words e (eqb n control) (heeding k))
+  same_word (keepers.Store e x) n ready = one_word e (record (kept_at k e) { value = x }) (λ is _. absurd (free e is ready.1))
+  same_word (keepers.Unlock e role lazy) n ready = one_word e (record { role = role; value = (kept_at k e).value; lazy = lazy; since = length k.events; fixed = None }) (λ is _. absurd (free e is ready.1))
+  same_word (keepers.Count e) n ready = λ now. refl
+  same_word (keepers.Await m) n ready = same_words (keeper_after (keepers.Await m) k n) (awaited_words m (nat_le 8 n) (heeding k))
+  same_word (keepers.Ask m) n ready = λ now. refl
+  same_word (keepers.Saw e m) n ready = one_word e (fixed_by n (kept_at k e)) (λ is role. fixed_same n (eqb n (kept_at k e).lazy) (kept_at k e))
+  same_word (keepers.Fill m i x) n ready = λ now. refl
+  same_word (keepers.Hand m mark) n ready = λ now. refl
+  same_word (keepers.Open m) n ready = λ now. refl
+  same_word (keepers.RetireSlot e) n ready = one_word e (record (kept_at k e) { role = NoRole }) (λ is gone. absurd (gone refl))
+  same_word (keepers.Retire e old) n ready = one_word e (record (kept_at k e) { role = NoRole }) (λ is gone. absurd (gone refl))
+  same_word (keepers.Generation g) n ready = λ now. refl
+  same_word (keepers.Recall m i) n ready = λ now. refl
+  same_word keepers.RecallGeneration n ready = λ now. refl
+  same_word (keepers.RecallRole e) n ready = λ now. refl
+  same_word keepers.Listen n ready = λ now. refl
+
+pub words_stay : WordsStay
+words_stay kind k n d long ready low here now = same_word k d long low here kind n ready now

@@ -237,7 +237,7 @@ keeper_grows (kinds.Look d) k n long ready = plain k (keeper_after (kinds.Look d
 keeper_grows (kinds.Load d) k n long ready = plain k (keeper_after (kinds.Load d) k n) refl refl refl refl refl refl (omega arith)
 keeper_grows (kinds.Lock d control) k n long ready = let g = kept_grows d (eqb n control) k in record { harts = g.harts; joined = g.joined; note = g.note; words = g.words; rows = g.rows; events = g.events; generation = g.generation; on = g.on }
 keeper_grows (kinds.Store d x) k n long ready = plain k (keeper_after (kinds.Store d x) k n) refl refl refl (length-set k.words d _) refl refl (omega arith)
-keeper_grows (kinds.Unlock d old new lazy) k n long ready = plain k (keeper_after (kinds.Unlock d old new lazy) k n) refl refl refl (length-set k.words d _) refl refl (omega arith)
+keeper_grows (kinds.Unlock d role lazy) k n long ready = plain k (keeper_after (kinds.Unlock d role lazy) k n) refl refl refl (length-set k.words d _) refl refl (omega arith)
 keeper_grows (kinds.Count e) k n long ready = record { harts = refl; joined = refl; note = refl; words = refl; rows = refl; events = begins_push k.events e.value; generation = omega arith; on = λ m. goes_itself (row_of k m) }
 keeper_grows (kinds.Await m) k n long ready = awaited_grows m (nat_le 8 n) k (subst (λ x. m < x) (sym long) ready)
 keeper_grows (kinds.Ask m) k n long ready =

@@ -28,6 +28,7 @@ use Rattle.word_rule.specs.Words.{Words}
 use Rattle.word_rule.specs.Calls.{Calls, Rests, RowIs, Stage, Still}
 use Rattle.word_rule.specs.Slots.{AreLosses, Slots}
 use Rattle.word_rule.specs.Generations.{Generations}
+use Rattle.word_rule.specs.Fetches.{Fetches}
 use Rattle.word_rule.specs.Rule.{HartKeeps, KeeperKeeps, Parts}
 use Rattle.word_rule.specs.Lemmas.Put.{put_field, set_put}
 use Rattle.word_rule.specs.Lemmas.Locks.{Aims}
@@ -41,6 +42,7 @@ use Rattle.word_rule.specs.Lemmas.Losses.{exchanges_grow, hart_losses, keeper_lo
 use Rattle.word_rule.specs.Lemmas.Marks.{hart_marks, keeper_marks}
 use Rattle.word_rule.specs.Lemmas.Owners.{trails_grow}
 use Rattle.word_rule.specs.Lemmas.Rows.{low_rest}
+use Rattle.word_rule.specs.Lemmas.Fetches.{hart_fetches, keeper_fetches}
 use Rattle.word_rule.specs.Lemmas.Knowing.{entries_begin, known_begins}
 use Rattle.word_rule.specs.Lemmas.Seating.{hart_seats, heard_on, heard_more, keeper_grows, keeper_seats}
 
@@ -175,6 +177,8 @@ module _ (word : ℕ → ℕ) (kept : KeeperView) (harts : ℕ → HartView) (p 
         (λ x c. exchanges_grow h.trail h'.trail (trails_grow.of_hart kind h (word (hart_word kind))) x (subst (λ (y : HartView). Contains (exchanges_of y.trail) x) is c)) p.losses);
     generations = subst (λ (f : ℕ → List TrailItem). Generations word' kept.generation (row_of kept) f) (put_field (λ (x : HartView). x.trail) harts h.number h')
         (hart_marks word kept.generation (row_of kept) (after (λ (x : HartView). x.trail) harts) p.generations h few (ap (λ (x : HartView). x.trail) is) row_is.trail grants issued kind);
+    fetches = subst (λ (q : (ℕ → Access) × (ℕ → List TrailItem)). Fetches (kept_at kept) kept.retired q.0 q.1) (λ i. (put_field (λ (x : HartView). x.access) harts h.number h' i, put_field (λ (x : HartView). x.trail) harts h.number h' i))
+        (hart_fetches word (kept_at kept) kept.retired kept.access (after (λ (x : HartView). x.access) harts) (after (λ (x : HartView). x.trail) harts) p.locks p.fetches h (ap (λ (x : HartView). x.access) is) (ap (λ (x : HartView). x.trail) is) kind ready);
   }
     where
       h' : HartView
@@ -218,7 +222,7 @@ module _ (word : ℕ → ℕ) (k : KeeperView) (harts : ℕ → HartView) (p : P
   keeper_low (keeps.Load d) ready = value_low d ready.0
   keeper_low (keeps.Lock d control) ready = control_low d ready.0
   keeper_low (keeps.Store d x) ready = value_low d (place d ready.0)
-  keeper_low (keeps.Unlock d old new lazy) ready = control_low d (place d ready.0)
+  keeper_low (keeps.Unlock d role lazy) ready = control_low d (place d ready.0)
   keeper_low (keeps.Count e) ready = omega arith
   keeper_low (keeps.Await m) ready = row_low m 0 ready (omega arith)
   keeper_low (keeps.Ask m) ready = row_low m 0 ready.0 (omega arith)
@@ -243,6 +247,7 @@ module _ (word : ℕ → ℕ) (k : KeeperView) (harts : ℕ → HartView) (p : P
     slots = keeper_slots word k (after (λ (x : HartView). x.lane.tried) harts) (after (λ (x : HartView). exchanges_of x.trail) harts) p.slots words_known rows_known place p.locks.keepers.held still kind ready;
     losses = keeper_losses word k (after (λ (x : HartView). x.lane.tried) harts) (after (λ (x : HartView). exchanges_of x.trail) harts) p.slots words_known rows_known p.losses kind ready;
     generations = keeper_marks word k (after (λ (x : HartView). x.trail) harts) p.generations rows_known kind ready;
+    fetches = keeper_fetches k words_known (after (λ (x : HartView). x.access) harts) (after (λ (x : HartView). x.trail) harts) p.fetches place kind (word (keeper_word kind)) ready;
   }
 
   -- a hart whose seat was joined while it wasn't calling
@@ -268,6 +273,7 @@ module _ (word : ℕ → ℕ) (k : KeeperView) (harts : ℕ → HartView) (p : P
         granted = g.granted;
         rising = g.rising;
         kept = p.generations.kept m few;
+        fetched = p.fetches.fetched m;
       })
 
   closed : (n : ℕ) → Rests n → n % 8 ≢ 3
@@ -287,7 +293,8 @@ module _ (word : ℕ → ℕ) (k : KeeperView) (harts : ℕ → HartView) (p : P
       (λ c since. awaited (word (state_at m)) ((p.calls.each_row m ready.0).known c since).awaits) (λ j e. closed (word (state_at m)) (ended m ready.0 gone j e).1) ready
   keeper_tells gone once told (keeps.Saw d m) ready = saw_tells word k (after (λ (x : HartView). x.lane.tried) harts) (after (λ (x : HartView). exchanges_of x.trail) harts) p.slots words_known rows_known d m ready
   keeper_tells gone once told (keeps.Recall m i) ready = (p.calls.each_row m ready).fields i
-  keeper_tells gone once told keeps.RecallGeneration ready = p.generations.current
+  keeper_tells gone once told keeps.RecallGeneration ready =
+      (p.generations.current, decides word k (after (λ (x : HartView). x.lane.tried) harts) (after (λ (x : HartView). exchanges_of x.trail) harts) p.slots words_known rows_known)
   keeper_tells gone once told (keeps.RecallRole d) ready = (p.locks.each_word d ready).role
   keeper_tells gone once told keeps.Listen ready = told
   keeper_tells gone once told _ ready = tt

@@ -116,7 +116,7 @@ keeper_alike (keepers.Generation g) x is k n m = record { after = refl; learns =
 keeper_alike (keepers.Look d) x is k n m = absurd (load_apart x is)
 keeper_alike (keepers.Load d) x is k n m = absurd (load_apart x is)
 keeper_alike (keepers.Lock d control) x is k n m = absurd (exchange_apart control (control + to_lock) x is)
-keeper_alike (keepers.Unlock d old new lazy) x is k n m = absurd (add_apart (to_unlock old new) x is)
+keeper_alike (keepers.Unlock d role lazy) x is k n m = absurd (add_apart (to_unlock NoRole role) x is)
 keeper_alike (keepers.Count e) x is k n m = absurd (add_apart 1 x is)
 keeper_alike (keepers.Await i) x is k n m = absurd (load_apart x is)
 keeper_alike (keepers.Ask i) x is k n m = absurd (load_apart x is)

@@ -3,8 +3,7 @@ use mathlib.Core.Logic.{dite}
 use native.Mathlib.Decide.{ℕ_discrete}
 use Rattle.word_rule.specs.declared.view.HartView.{HartView}
 use Rattle.word_rule.specs.declared.view.KeeperView.{KeeperView}
-use Rattle.word_rule.specs.KeeperSteps.{AreJoinedOnce, HasEnded, HasTakenAll}
-use Rattle.link_keeper.specs.Joining.{AreDecided}
+use Rattle.word_rule.specs.KeeperSteps.{AreDecided, AreJoinedOnce, HasEnded, HasTakenAll}
 use Rattle.link_keeper.proofs.finishing.look_over.Goals as goal
 
 pub look_at-requires-clause-ended : goal.look_at-requires-clause-ended

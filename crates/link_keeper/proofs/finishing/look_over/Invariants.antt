@@ -1,6 +1,6 @@
 use Rattle.std.proofs.Common.{◌≡◌, ◌<◌}
-use Rattle.word_rule.specs.KeeperSteps.{AreJoinedOnce}
-use Rattle.link_keeper.specs.Joining.{AreDecided, HaveTakenAll}
+use Rattle.word_rule.specs.KeeperSteps.{AreDecided, AreJoinedOnce}
+use Rattle.link_keeper.specs.Joining.{HaveTakenAll}
 use Rattle.link_keeper.proofs.finishing.look_over.Given as goal
 
 abbrev pub invariant-loop-number : goal.invariant-loop-number

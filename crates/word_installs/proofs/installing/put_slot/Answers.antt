@@ -1,9 +1,7 @@
 use Rattle.std.proofs.Common.{◌≡◌, false, true, sym, ap, ◌∙◌}
 use Rattle.ld_base.specs.declared.linking.Role.TheVariants.{Slot}
 use Rattle.seg_image.specs.declared.image.Word.{Word}
-use Rattle.word_access.specs.WordKeeping.Keeping.{set_as}
-use Rattle.word_rule.specs.Layout.{place_of}
-use Rattle.word_installs.proofs.Putting.{may_set_slot, no_slot, slot_put, was_set}
+use Rattle.word_installs.proofs.Putting.{may_set_slot, no_slot, slot_put}
 use Rattle.word_installs.proofs.installing.put_slot.Goals as goal
 
 pub set_word-requires : goal.set_word-requires
@@ -12,9 +10,7 @@ set_word-requires g c = may_set_slot c.args.keeper.now c.args.images.now c.args.
 pub returns-then-is_slot_role : goal.returns-then-is_slot_role
 returns-then-is_slot_role g c =
     let role : c.in-Some.word.role ≡ Slot = c.is_slot_role.ensures.0 c.if-is_slot_role.true in
-    slot_put c.args.images.now c.args.slot c.in-Some.word c.args.keeper.now c.set_word.new.keeper c.set_word.ensures.long c.requires c.in-Some.ensures.found role
-    (was_set c.args.keeper.now c.set_word.new.keeper (set_as (place_of c.args.slot.address) c.in-Some.word.value Slot c.args.slot.lazy c.args.keeper.now) (place_of c.args.slot.address)
-    c.set_word.result (c.requires.free c.in-Some.word c.in-Some.ensures.found role) c.set_word.ensures.ok c.set_word.ensures.writable)
+    slot_put c.args.images.now c.args.slot c.in-Some.word c.args.keeper.now c.set_word.new.keeper c.set_word.ensures.long c.requires c.in-Some.ensures.found role c.set_word.ensures.set
 
 pub returns-else-is_slot_role : goal.returns-else-is_slot_role
 returns-else-is_slot_role g c =

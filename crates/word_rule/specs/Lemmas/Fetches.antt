@@ -1,0 +1,270 @@
+-- The part on what harts run, over each kind of step.
+use Rattle.std.proofs.Common.{◌≡◌, ◌≢◌, ◌⊎◌, ⊎_elim, inl, inr, ℕ, ◌%◌, ◌<◌, Bool, true, false, eqb, nat_le, List, [], ◌∷◌, ◌++◌, length, Some, None, Ok, Contains, refl, sym, ap, subst, ◌∙◌, slice_index_or, ◌==◌}
+use Rattle.std.proofs.lemmas.List.Elements.{Contains-append_left, Contains-push, Contains-push_cases}
+use mathlib.Core.Logic.{dite}
+use native.Mathlib.Decide.{ℕ_discrete}
+use Rattle.ld_base.specs.declared.linking.Role.{Role}
+use Rattle.ld_base.specs.declared.linking.Role.TheVariants.{None as NoRole, Ro, Rx, Rw, Slot as SlotRole}
+use Rattle.ld_base.specs.declared.fault.Shown.TheVariants.{Locked}
+use Rattle.rv_hart.specs.Buses.{may_fetch}
+use Rattle.rv_hart.specs.Doublewords.{lane as bytes_in}
+use Rattle.rv_hart.specs.declared.bus.Item.{Item}
+use Rattle.rv_hart.specs.declared.bus.BusFault.{BusFault}
+use Rattle.rv_hart.specs.declared.bus.BusFault.TheVariants.{Again}
+use Rattle.rv_hart.specs.declared.bus.Item.TheVariants as items
+use Rattle.word_rule.specs.declared.kind.Ask.{Ask}
+use Rattle.word_rule.specs.declared.kind.Ask.TheVariants.{Load as Loads, Store as Stores}
+use Rattle.word_rule.specs.declared.kind.LoadAsk.{LoadAsk}
+use Rattle.word_rule.specs.declared.kind.LoadAsk.TheVariants.{Fetch, Read, Reserve}
+use Rattle.word_rule.specs.declared.kind.StoreAsk.{StoreAsk}
+use Rattle.word_rule.specs.declared.kind.StoreAsk.TheVariants.{Write, Amo, Conditional}
+use Rattle.word_rule.specs.declared.kind.HartKind.{HartKind}
+use Rattle.word_rule.specs.declared.kind.HartKind.TheVariants as kinds
+use Rattle.word_rule.specs.declared.kind.KeeperKind.{KeeperKind}
+use Rattle.word_rule.specs.declared.kind.KeeperKind.TheVariants as keeps
+use Rattle.word_rule.specs.declared.view.Access.{Access}
+use Rattle.word_rule.specs.declared.view.HartView.{HartView}
+use Rattle.word_rule.specs.declared.view.KeeperView.{KeeperView}
+use Rattle.word_rule.specs.declared.view.Kept.{Kept}
+use Rattle.word_rule.specs.declared.view.Retired.{Retired}
+use Rattle.word_rule.specs.declared.view.TrailItem.{TrailItem}
+use Rattle.word_rule.specs.declared.view.TrailItem.TheVariants.{Call, Took, Exchanged, Done, Generation as ReadGeneration}
+use Rattle.word_rule.specs.Layout.{control_at, doublewords, lock_bit, place_of, role_code, role_in, value_at}
+use Rattle.word_rule.specs.Views.{kept_at, put, unmapped}
+use Rattle.word_rule.specs.HartSteps.{HartReady, Asked, ask_is_fresh, ask_place, failed, glanced, hart_after, hart_word, heeded, last_control, load_permits, load_place, load_refused, loaded, locked_if, looked, permits, refused, store_place, store_refused, stored}
+use Rattle.word_rule.specs.KeeperSteps.{KeeperReady, awaited_if, fixed_by, heeding, keeper_after, keeps_if, retired, with_kept}
+use Rattle.word_rule.specs.Words.{Holds, Words}
+use Rattle.word_rule.specs.Fetches.{AreFetched, Fetches, FoundCode, IsCode, RoleWent}
+use Rattle.word_rule.specs.Lemmas.Heeding.{fixed_same, kept_here, unseen}
+use Rattle.word_rule.specs.Lemmas.Put.{put_each, set_at}
+use Rattle.word_rule.specs.Lemmas.Unlocking.{role_is}
+
+-- ---- items
+
+-- the item isn't a fetch that was answered
+abbrev IsOther : TrailItem → Type 0
+IsOther item = (a bits : ℕ) → item ≢ Call (items.Fetch a (Ok bits))
+
+refused_other : (ask : LoadAsk) (fault : BusFault) → IsOther (Call (load_refused ask fault))
+refused_other (Fetch a) fault b bits e = absurd (cc)
+refused_other (Read a size) fault b bits e = absurd (cc)
+refused_other (Reserve a size) fault b bits e = absurd (cc)
+
+store_other : (ask : StoreAsk) (fault : BusFault) → IsOther (Call (store_refused ask fault))
+store_other (Write a size v) fault b bits e = absurd (cc)
+store_other (Amo a size op v) fault b bits e = absurd (cc)
+store_other (Conditional a size v version) fault b bits e = absurd (cc)
+
+ask_other : (ask : Ask) (fault : BusFault) → IsOther (Call (refused ask fault))
+ask_other (Loads ask) fault = refused_other ask fault
+ask_other (Stores ask) fault = store_other ask fault
+
+failed_other : (ask : Ask) → IsOther (Call (failed ask))
+failed_other (Loads ask) b bits e = refused_other ask (Again (Locked 0 0)) b bits e
+failed_other (Stores (Write a size v)) b bits e = absurd (cc)
+failed_other (Stores (Amo a size op v)) b bits e = absurd (cc)
+failed_other (Stores (Conditional a size v version)) b bits e = absurd (cc)
+
+stored_other : (ask : StoreAsk) (value : ℕ) → IsOther (Call (stored ask value))
+stored_other (Write a size v) value b bits e = absurd (cc)
+stored_other (Amo a size op v) value b bits e = absurd (cc)
+stored_other (Conditional a size v version) value b bits e = absurd (cc)
+
+-- ---- harts
+
+module _ (known : ℕ → Kept) (gone : List Retired) where
+  -- what one hart has looked at, and what it fetched
+  record OfHart (access : Access) (trail : List TrailItem) : Type 0 where
+    pub looked : (d control : ℕ) → access.last ≡ Some (d, control) → role_in control ≡ Rx → IsCode known gone d
+    pub fetched : AreFetched known gone trail
+
+  adds : (trail : List TrailItem) (item : TrailItem) → IsOther item → AreFetched known gone trail → AreFetched known gone (trail ++ item ∷ [])
+  adds trail item other old a bits there = ⊎_elim (λ (was : Contains trail (Call (items.Fetch a (Ok bits)))). old a bits was) (λ (new : item ≡ Call (items.Fetch a (Ok bits))). absurd (other a bits new))
+      (Contains-push_cases trail item (Call (items.Fetch a (Ok bits))) there)
+
+  -- nothing is looked at any more
+  forgets : (access : Access) (trail : List TrailItem) → access.last ≡ None → AreFetched known gone trail → OfHart access trail
+  forgets access trail none' found = record { looked = λ d control e. let q : None ≡ Some (d, control) = sym none' ∙ e in absurd (cc); fetched = found }
+
+  glances : (ask : Ask) (control : ℕ) (a b c : Bool) (h : HartView) → OfHart h.access h.trail → (role_in control ≡ Rx → IsCode known gone (ask_place ask)) → OfHart (glanced ask control a b c h).access (glanced ask control a b c h).trail
+  glances ask control true b c h old code = forgets _ _ refl (adds h.trail _ (ask_other ask _) old.fetched)
+  glances ask control false false c h old code = forgets _ _ refl (adds h.trail _ (ask_other ask _) old.fetched)
+  glances ask control false true false h old code = forgets _ _ refl (adds h.trail _ (failed_other ask) old.fetched)
+  glances ask control false true true h old code = record {
+    looked = λ d n e rx.
+        let q : Some (ask_place ask, control) ≡ Some (d, n) = e in
+        let p : (ask_place ask, control) ≡ (d, n) = cc in
+        subst (IsCode known gone) (ap (λ (x : ℕ × ℕ). x.0) p) (code (ap (λ (x : ℕ × ℕ). role_in x.1) p ∙ rx));
+    fetched = old.fetched;
+  }
+
+  locks : (ask : StoreAsk) (control n : ℕ) (b : Bool) (h : HartView) → OfHart h.access h.trail → h.access.last ≡ Some (store_place ask, control) → OfHart (locked_if ask control n b h).access (locked_if ask control n b h).trail
+  locks ask control n true h old last = record { looked = λ d c e rx. old.looked d c (last ∙ e) rx; fetched = old.fetched }
+  locks ask control n false h old last = forgets _ _ refl (adds h.trail _ (store_other ask _) old.fetched)
+
+  fetch_role : (r : Role) → may_fetch r ≡ true → r ≡ Rx
+  fetch_role Rx may = refl
+  fetch_role NoRole may = absurd (cc)
+  fetch_role Ro may = absurd (cc)
+  fetch_role Rw may = absurd (cc)
+  fetch_role SlotRole may = absurd (cc)
+
+  module _ (word : ℕ → ℕ) (access : Access) (harts : ℕ → Access) (w : Words word known access harts) (h : HartView) (old : OfHart h.access h.trail) where
+    -- a doubleword whose control word says RX is RX
+    code_there : (d : ℕ) → d < doublewords → role_in (word (control_at d)) ≡ Rx → IsCode known gone d
+    code_there d low rx = inl (sym (role_is (word (control_at d)) (known d).role (w.each_word d low).role) ∙ rx)
+
+    asked_low : (ask : Ask) → Asked ask → ask_place ask < doublewords
+    asked_low (Loads ask) a = a.0.1
+    asked_low (Stores ask) a = a.0.1
+
+    -- the word of an RX doubleword is the one that the keeper knows
+    code_found : (a : ℕ) → place_of a < doublewords → IsCode known gone (place_of a) → FoundCode known gone a (bytes_in (word (value_at (place_of a))) a 4)
+    code_found a low code = ⊎_elim
+        (λ (rx : (known (place_of a)).role ≡ Rx). inl (rx, ap (λ n. bytes_in n a 4) (subst (λ r. Holds r (known (place_of a)).value (word (value_at (place_of a)))) rx (w.each_word (place_of a) low).holds)))
+        (λ (went : RoleWent gone (place_of a) Rx). inr went)
+        code
+
+    loads : (ask : LoadAsk) → HartReady (kinds.Load ask) h → AreFetched known gone (h.trail ++ Call (loaded ask (last_control h.access.last) (word (value_at (load_place ask)))) ∷ [])
+    loads (Read a size) ready b bits there = adds h.trail _ (λ b bits e. absurd (cc)) old.fetched b bits there
+    loads (Reserve a size) ready b bits there = adds h.trail _ (λ b bits e. absurd (cc)) old.fetched b bits there
+    loads (Fetch a) ready b bits there = ⊎_elim
+        (λ (was : Contains h.trail (Call (items.Fetch b (Ok bits)))). old.fetched b bits was)
+        (λ (new : Call (items.Fetch a (Ok (bytes_in (word (value_at (place_of a))) a 4))) ≡ Call (items.Fetch b (Ok bits))).
+        let same : a ≡ b = cc in
+        let found : bytes_in (word (value_at (place_of a))) a 4 ≡ bits = cc in
+        subst (λ (p : ℕ × ℕ). FoundCode known gone p.0 p.1) (λ i. (same i, found i))
+        (code_found a ready.0.0.1 (old.looked (place_of a) ready.2.0 ready.2.1 (fetch_role (role_in ready.2.0) ready.2.3))))
+        (Contains-push_cases h.trail (Call (items.Fetch a (Ok (bytes_in (word (value_at (place_of a))) a 4)))) (Call (items.Fetch b (Ok bits))) there)
+
+    own_fetches : (kind : HartKind) → HartReady kind h → OfHart (hart_after kind h (word (hart_word kind))).access (hart_after kind h (word (hart_word kind))).trail
+    own_fetches (kinds.Look ask) ready = let n : ℕ = word (control_at (ask_place ask)) in
+        glances ask n (lock_bit n == 1) (permits ask (role_in n)) (ask_is_fresh ask n) (heeded h) old (code_there (ask_place ask) (asked_low ask ready.0))
+    own_fetches (kinds.Load ask) ready = forgets _ _ refl (loads ask ready)
+    own_fetches (kinds.Hold ask) ready = record { looked = old.looked; fetched = old.fetched }
+    own_fetches (kinds.Lock ask control) ready = let n : ℕ = word (control_at (store_place ask)) in locks ask control n (eqb n control) (heeded h) old ready.2
+    own_fetches (kinds.Store ask x) ready = forgets _ _ refl (adds h.trail _ (stored_other ask _) old.fetched)
+    own_fetches (kinds.Unlock d) ready = forgets _ _ refl old.fetched
+    own_fetches kinds.Tally ready = record { looked = old.looked; fetched = old.fetched }
+    own_fetches (kinds.Begin m) ready = record { looked = old.looked; fetched = old.fetched }
+    own_fetches (kinds.Arrive m) ready = record { looked = old.looked; fetched = old.fetched }
+    own_fetches (kinds.Find m i) ready = record { looked = old.looked; fetched = old.fetched }
+    own_fetches (kinds.Exchange g) ready = record { looked = old.looked; fetched = adds h.trail _ (λ a bits e. absurd (cc)) old.fetched }
+    own_fetches (kinds.Accept m e) ready = record { looked = old.looked; fetched = adds h.trail (Took e) (λ a bits q. absurd (cc)) old.fetched }
+    own_fetches (kinds.Finish m won) ready = record { looked = old.looked; fetched = adds h.trail Done (λ a bits e. absurd (cc)) old.fetched }
+    own_fetches (kinds.Generation number) ready = record { looked = old.looked; fetched = adds h.trail _ (λ a bits e. absurd (cc)) old.fetched }
+    own_fetches kinds.Listen ready = record { looked = old.looked; fetched = old.fetched }
+
+pub hart_fetches : (word : ℕ → ℕ) (known : ℕ → Kept) (gone : List Retired) (access : Access) (harts : ℕ → Access) (trail : ℕ → List TrailItem) → Words word known access harts → Fetches known gone harts trail
+    → (h : HartView) → harts h.number ≡ h.access → trail h.number ≡ h.trail → (kind : HartKind) → HartReady kind h
+    → Fetches known gone (put harts h.number (hart_after kind h (word (hart_word kind))).access) (put trail h.number (hart_after kind h (word (hart_word kind))).trail)
+hart_fetches word known gone access harts trail w f h looks walks kind ready = record {
+  looked = put_each (λ j (a : Access). (d control : ℕ) → a.last ≡ Some (d, control) → role_in control ≡ Rx → IsCode known gone d) harts h.number (hart_after kind h (word (hart_word kind))).access (λ j _. f.looked j) now.looked;
+  fetched = put_each (λ j (t : List TrailItem). AreFetched known gone t) trail h.number (hart_after kind h (word (hart_word kind))).trail (λ j _. f.fetched j) now.fetched;
+}
+  where
+    now : OfHart known gone (hart_after kind h (word (hart_word kind))).access (hart_after kind h (word (hart_word kind))).trail
+    now = own_fetches known gone word access harts w h (record {
+      looked = λ d control e. f.looked h.number d control (ap (λ (a : Access). a.last) looks ∙ e);
+      fetched = subst (AreFetched known gone) walks (f.fetched h.number);
+    }) kind ready
+
+-- ---- the keeper
+
+-- an RX doubleword keeps its word, or its role went
+pub record CodeStays (known known' : ℕ → Kept) (gone gone' : List Retired) : Type 0 where
+  pub code : (d : ℕ) → (known d).role ≡ Rx → (((known' d).role ≡ Rx) × ((known' d).value ≡ (known d).value)) ⊎ RoleWent gone' d Rx
+  pub went : (x : Retired) → Contains gone x → Contains gone' x
+
+pub fetches_stay : (known known' : ℕ → Kept) (gone gone' : List Retired) (access : ℕ → Access) (trail : ℕ → List TrailItem) → CodeStays known known' gone gone' → Fetches known gone access trail → Fetches known' gone' access trail
+fetches_stay known known' gone gone' access trail stays f = record {
+  looked = λ m d control e rx. ⊎_elim
+      (λ (code : (known d).role ≡ Rx). ⊎_elim (λ (here : ((known' d).role ≡ Rx) × ((known' d).value ≡ (known d).value)). inl here.0) (λ (w : RoleWent gone' d Rx). inr w) (stays.code d code))
+      (λ (w : RoleWent gone d Rx). inr (went d w))
+      (f.looked m d control e rx);
+  fetched = λ m a bits there. ⊎_elim
+      (λ (found : ((known (place_of a)).role ≡ Rx) × (bits ≡ bytes_in (known (place_of a)).value a 4)). ⊎_elim
+      (λ (here : ((known' (place_of a)).role ≡ Rx) × ((known' (place_of a)).value ≡ (known (place_of a)).value)). inl (here.0, found.1 ∙ ap (λ n. bytes_in n a 4) (sym here.1)))
+      (λ (w : RoleWent gone' (place_of a) Rx). inr w)
+      (stays.code (place_of a) found.0))
+      (λ (w : RoleWent gone (place_of a) Rx). inr (went (place_of a) w))
+      (f.fetched m a bits there);
+}
+  where
+    went : (d : ℕ) → RoleWent gone d Rx → RoleWent gone' d Rx
+    went d w = record { went = w.went; there = stays.went w.went w.there; at = w.at; role_is = w.role_is }
+
+module _ (k : KeeperView) (words_known : length k.words ≡ doublewords) where
+  abbrev Stays : KeeperView → Type 0
+  Stays k' = CodeStays (kept_at k) (kept_at k') k.retired k'.retired
+
+  -- neither changes
+  stay : (k' : KeeperView) → k'.words ≡ k.words → k'.retired ≡ k.retired → Stays k'
+  stay k' words gone = record {
+    code = λ d rx. inl (subst (λ (l : List Kept). ((slice_index_or l d unmapped).role ≡ Rx) × ((slice_index_or l d unmapped).value ≡ (kept_at k d).value)) (sym words) (rx, refl));
+    went = λ x there. subst (λ (l : List Retired). Contains l x) (sym gone) there;
+  }
+
+  kept_if : (d : ℕ) (b : Bool) → Stays (keeps_if d b (heeding k))
+  kept_if d true = stay (keeps_if d true (heeding k)) refl refl
+  kept_if d false = stay (keeps_if d false (heeding k)) refl refl
+
+  awaited : (m : ℕ) (b : Bool) → Stays (awaited_if m b (heeding k))
+  awaited m true = stay (awaited_if m true (heeding k)) refl refl
+  awaited m false = stay (awaited_if m false (heeding k)) refl refl
+
+  -- what is known of one doubleword changes, which was no RX one, or stays that with its word
+  one : (e : ℕ) (x : Kept) → e < doublewords → ((kept_at k e).role ≡ Rx → (x.role ≡ Rx) × (x.value ≡ (kept_at k e).value)) → Stays (with_kept e x k)
+  one e x low keeps' = record {
+    code = λ d rx. inl (dite (ℕ_discrete d e)
+        (λ (is : d ≡ e). subst (λ (y : Kept). (y.role ≡ Rx) × (y.value ≡ (kept_at k d).value)) (sym (ap (kept_at (with_kept e x k)) is ∙ kept_here k e x (subst (λ n. e < n) (sym words_known) low)))
+        (subst (λ i. (x.role ≡ Rx) × (x.value ≡ (kept_at k i).value)) (sym is) (keeps' (ap (λ i. (kept_at k i).role) (sym is) ∙ rx))))
+        (λ (apart : d ≢ e). subst (λ (y : Kept). (y.role ≡ Rx) × (y.value ≡ (kept_at k d).value)) (sym (set_at k.words e d x unmapped apart)) (rx, refl)));
+    went = λ x there. there;
+  }
+
+  -- a doubleword without a role isn't RX
+  fresh : (e : ℕ) {P : Type 0} → (kept_at k e).role ≡ NoRole → (kept_at k e).role ≡ Rx → P
+  fresh e free rx = let q : NoRole ≡ Rx = sym free ∙ rx in absurd (cc)
+
+  retires : (e : ℕ) → e < doublewords → Stays (retired e k)
+  retires e low = record {
+    code = λ d rx. dite (ℕ_discrete d e)
+        (λ (is : d ≡ e). inr (record { went = gone; there = Contains-push k.retired gone; at = sym is; role_is = ap (λ i. (kept_at k i).role) (sym is) ∙ rx }))
+        (λ (apart : d ≢ e). inl (subst (λ (y : Kept). (y.role ≡ Rx) × (y.value ≡ (kept_at k d).value)) (sym (set_at k.words e d (record (kept_at k e) { role = NoRole }) unmapped apart)) (rx, refl)));
+    went = λ x there. Contains-append_left k.retired (gone ∷ []) x there;
+  }
+    where
+      gone : Retired
+      gone = record { at = e; role = (kept_at k e).role; generation = k.generation; number = length k.events }
+
+  saw : (e n : ℕ) → e < doublewords → Stays (with_kept e (fixed_by n (kept_at k e)) k)
+  saw e n low = one e (fixed_by n (kept_at k e)) low (λ rx. let same : unseen (fixed_by n (kept_at k e)) ≡ unseen (kept_at k e) = fixed_same n (eqb n (kept_at k e).lazy) (kept_at k e) in
+      (ap (λ (y : Kept). y.role) same ∙ rx, ap (λ (y : Kept). y.value) same))
+
+  -- the doubleword that the keeper has locked is in range
+  code_stays : ((d : ℕ) → k.access.locked ≡ Some d → d < doublewords) → (kind : KeeperKind) (n : ℕ) → KeeperReady kind k → Stays (keeper_after kind k n)
+  code_stays place (keeps.Look d) n ready = stay (keeper_after (keeps.Look d) k n) refl refl
+  code_stays place (keeps.Load d) n ready = stay (keeper_after (keeps.Load d) k n) refl refl
+  code_stays place (keeps.Lock d control) n ready = let p = kept_if d (eqb n control) in record { code = p.code; went = p.went }
+  code_stays place (keeps.Store d x) n ready = let p = one d (record (kept_at k d) { value = x }) (place d ready.0) (fresh d ready.1) in record { code = p.code; went = p.went }
+  code_stays place (keeps.Unlock d role lazy) n ready =
+      let p = one d (record { role = role; value = (kept_at k d).value; lazy = lazy; since = length k.events; fixed = None }) (place d ready.0) (fresh d ready.1) in record { code = p.code; went = p.went }
+  code_stays place (keeps.Count e) n ready = stay (keeper_after (keeps.Count e) k n) refl refl
+  code_stays place (keeps.Await m) n ready = awaited m (nat_le 8 n)
+  code_stays place (keeps.Ask m) n ready = stay (keeper_after (keeps.Ask m) k n) refl refl
+  code_stays place (keeps.Saw d m) n ready = let p = saw d n ready.2.0.0 in record { code = p.code; went = p.went }
+  code_stays place (keeps.Fill m i x) n ready = stay (keeper_after (keeps.Fill m i x) k n) refl refl
+  code_stays place (keeps.Hand m mark) n ready = stay (keeper_after (keeps.Hand m mark) k n) refl refl
+  code_stays place (keeps.Open m) n ready = stay (keeper_after (keeps.Open m) k n) refl refl
+  code_stays place (keeps.RetireSlot d) n ready = let p = retires d (place d ready.0) in record { code = p.code; went = p.went }
+  code_stays place (keeps.Retire d old) n ready = let p = retires d (place d ready.0) in record { code = p.code; went = p.went }
+  code_stays place (keeps.Generation g) n ready = stay (keeper_after (keeps.Generation g) k n) refl refl
+  code_stays place (keeps.Recall m i) n ready = stay (keeper_after (keeps.Recall m i) k n) refl refl
+  code_stays place keeps.RecallGeneration n ready = stay (keeper_after keeps.RecallGeneration k n) refl refl
+  code_stays place (keeps.RecallRole d) n ready = stay (keeper_after (keeps.RecallRole d) k n) refl refl
+  code_stays place keeps.Listen n ready = stay (keeper_after keeps.Listen k n) refl refl
+
+  pub keeper_fetches : (access : ℕ → Access) (trail : ℕ → List TrailItem) → Fetches (kept_at k) k.retired access trail → ((d : ℕ) → k.access.locked ≡ Some d → d < doublewords) → (kind : KeeperKind) (n : ℕ)
+      → KeeperReady kind k → Fetches (kept_at (keeper_after kind k n)) (keeper_after kind k n).retired access trail
+  keeper_fetches access trail f place kind n ready = fetches_stay (kept_at k) (kept_at (keeper_after kind k n)) k.retired (keeper_after kind k n).retired access trail (code_stays place kind n ready) f
