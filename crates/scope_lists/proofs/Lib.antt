@@ -1,6 +1,8 @@
 pub mod Apart
+pub mod ByName
 pub mod Covers
 pub mod Ended
+pub mod KeptOrders
 pub mod Orders
 pub mod Parts
 pub mod Stands

@@ -4,6 +4,7 @@ use Rattle.std.specs.Prelude.{◌==◌, ◌||◌, not, filter, flat_map, option_
 use Rattle.std.proofs.lemmas.Option.{slice_get-map}
 use Rattle.ld_base.specs.declared.linking.Loaded.{Loaded}
 use Rattle.ld_base.specs.declared.linking.State.{State}
+use Rattle.ld_base.specs.declared.object.Object.{Object}
 use Rattle.scope_rule.specs.Breadth.{breadth, extend, has, order_to}
 use Rattle.scope_rule.specs.Choose.{first_with}
 use Rattle.scope_rule.specs.Loading.{found_of, is_dying, is_dying_at, object_of, with_serial}
@@ -13,10 +14,13 @@ use Rattle.scope_rule.specs.declared.namespace.OpenRec.{OpenRec}
 use Rattle.scope_lists.specs.Kept.{ArePlaced, AreScopes, IsScope, entry_in, kept_at, kept_in}
 use Rattle.scope_lists.specs.Links.{found_once}
 use Rattle.scope_lists.specs.Lists.{AreListsOf, ChangesStateAlone}
+use Rattle.scope_lists.specs.NameOrder.{IsNameOrder}
+use Rattle.scope_lists.specs.NameOrders.{AreNameOrders}
 use Rattle.scope_lists.specs.Places.{place_in, serials}
 use Rattle.scope_lists.specs.declared.kept.KeptScope.{KeptScope}
 use Rattle.scope_lists.specs.declared.kept.KeptScopes.{KeptScopes}
 use Rattle.scope_lists.specs.declared.lists.SearchLists.{SearchLists}
+use Rattle.scope_lists.specs.declared.name_orders.NameOrders.{NameOrders}
 use Rattle.scope_lists.specs.VersionPlaces.Places.{places_of}
 use Rattle.scope_lists.specs.declared.version_places.names.VersionPlace.{VersionPlace}
 
@@ -151,6 +155,17 @@ module _ (change : Loaded → Loaded) (alone : (o : Loaded) → ChangesStateAlon
               placed = subst (λ (l : List ℕ). ArePlaced l (kept_in kept.global.items found)) (sym (same_serials s.objects)) was.placed;
             }
 
+    same_orders : (orders : NameOrders) → AreNameOrders s orders → AreNameOrders Then orders
+    same_orders orders are place o order at has = by (slice_get s.objects place) refl
+      where
+        by : (x : Option Loaded) → slice_get s.objects place ≡ x → IsNameOrder o.object order
+        by None is = absurd (let no : None ≡ Some o = ap (option_map change) (sym is) ∙ sym (slice_get-map change s.objects place) ∙ at in cc no)
+        by (Some before) is =
+            let both : Some (change before) ≡ Some o = ap (option_map change) (sym is) ∙ sym (slice_get-map change s.objects place) ∙ at in
+            let same : change before ≡ o = cc both in
+            let object : before.object ≡ o.object = sym (ap (λ (x : Loaded). x.object) (alone before).rest) ∙ ap (λ (x : Loaded). x.object) same in
+            subst (λ (x : Object). IsNameOrder x order) object (are place before order is has)
+
     pub stay : (lists : SearchLists) → AreListsOf s lists → AreListsOf Then lists
     stay lists are = record {
       links = record {
@@ -159,5 +174,6 @@ module _ (change : Loaded → Loaded) (alone : (o : Loaded) → ChangesStateAlon
         all = λ q x there some. are.links.all q x (ap (λ (l : List ℕ). has l x) (sym (same_found q)) ∙ there) some;
       };
       names = are.names ∙ sym (same_names s.objects);
+      orders = same_orders lists.orders are.orders;
       scopes = same_kept lists.scopes are.scopes;
     }

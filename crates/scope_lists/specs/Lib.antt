@@ -4,6 +4,8 @@ pub mod Covering
 pub mod Kept
 pub mod Links
 pub mod Lists
+pub mod NameOrder
+pub mod NameOrders
 pub mod Owners
 pub mod Places
 pub mod Searched

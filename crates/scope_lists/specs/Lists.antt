@@ -7,6 +7,7 @@ use Rattle.scope_rule.specs.Scope.{scope}
 use Rattle.scope_rule.specs.Seen.{Seen}
 use Rattle.scope_lists.specs.Kept.{AreScopes, kept_at}
 use Rattle.scope_lists.specs.Links.{AreLinks}
+use Rattle.scope_lists.specs.NameOrders.{AreNameOrders}
 use Rattle.scope_lists.specs.Places.{place_of}
 use Rattle.scope_lists.specs.Searched.{FindsAlike, in_parts, serials_in}
 use Rattle.scope_lists.specs.declared.lists.SearchLists.{SearchLists}
@@ -14,10 +15,12 @@ use Rattle.scope_lists.specs.declared.searched.ScopeParts.{ScopeParts}
 use Rattle.scope_lists.specs.declared.searched.Searched.{Searched}
 use Rattle.scope_lists.specs.VersionPlaces.Places.{places_of}
 
--- the lists are of what is seen of a namespace: they know what its objects lead to, where the names of their versions stand, and of some the Scope
+-- the lists are of what is seen of a namespace: they know what its objects lead to, where the names of their versions stand, and of some the
+-- definitions by name and the Scope
 pub record AreListsOf (s : Seen) (lists : SearchLists) : Type 0 where
   pub links : AreLinks s lists.links
   pub names : lists.names.items ≡ map (λ o. places_of o.object) s.objects
+  pub orders : AreNameOrders s lists.orders
   pub scopes : AreScopes s lists.scopes
 
 -- they know the Scope of the object at a place in load order

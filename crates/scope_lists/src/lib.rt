@@ -8,7 +8,9 @@
 //! own. Else each takes a step an entry of its own, and a look-up an opening.
 //! By [`lists_stay`] an object that becomes ready leaves the lists as they are.
 //!
-//! `version_places` knows where the names of an object's versions stand, by their index.
+//! `version_places` knows where the names of an object's versions stand, by their index. Of objects in whose hash
+//! tables walks are long (a file may put all its names into one bucket) the definitions are put in the order of
+//! their names ([`NameOrder`]), if there are so many references that it pays.
 #![tactic(auto)]
 
 mod breadth_first;
@@ -18,6 +20,9 @@ mod kept;
 mod law;
 mod links;
 mod lists;
+mod long_walks;
+mod name_order;
+mod name_orders;
 mod owners;
 mod places;
 mod scoping;
@@ -26,6 +31,7 @@ mod version_places;
 
 pub use law::lists_stay;
 pub use lists::SearchLists;
+pub use name_order::NameOrder;
 pub use places::object_at;
 pub use searched::{ScopeParts, Searched};
 pub use version_places::{VersionNames, VersionPlace, version_name};

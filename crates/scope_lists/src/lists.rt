@@ -7,6 +7,8 @@ ghost use Rattle.scope_lists.specs.VersionPlaces.Places.{places_of};
 
 use crate::kept::KeptScopes;
 use crate::links::Links;
+use crate::name_order::NameOrder;
+use crate::name_orders::NameOrders;
 use crate::owners::Owners;
 use crate::scoping::Scopes;
 use crate::searched::{ScopeParts, entries};
@@ -23,6 +25,7 @@ pub struct SearchLists {
     links: Links,
     /// Where the names of the versions of each object stand, in load order.
     names: Vec<VersionNames>,
+    orders: NameOrders,
     scopes: KeptScopes,
 }
 
@@ -58,13 +61,14 @@ fn names_at(names: &[VersionNames], place: usize) -> Option<&VersionNames>
 }
 
 impl SearchLists {
-    ghost use Rattle.std.specs.Prelude.{◌≡◌, ℕ, Some, length, IfOk, OnOk};
+    ghost use Rattle.std.specs.Prelude.{◌≡◌, ℕ, Some, length, IfOk, IfSome, OnOk};
     ghost use Rattle.std.specs.Option.{option_copied};
     ghost use Rattle.std.specs.List.{slice_get};
     ghost use Rattle.ld_base.specs.declared.linking.Loaded.{Loaded as loaded};
     ghost use Rattle.scope_rule.specs.Loading.{object_of};
     ghost use Rattle.scope_rule.specs.Seen.{Seen, seen, seen_in};
     ghost use Rattle.scope_lists.specs.Lists.{AreListed, AreListsOf, ArePartsOf, IsListed, IsListedAt, at_place};
+    ghost use Rattle.scope_lists.specs.NameOrder.{IsNameOrder};
     ghost use Rattle.scope_lists.specs.VersionPlaces.Places.{places_of};
 
     /// Those of what is seen of a namespace, without any scope.
@@ -81,6 +85,7 @@ impl SearchLists {
         Ok(SearchLists {
             links,
             names,
+            orders: NameOrders::new(alloc),
             scopes: KeptScopes::new(alloc, global),
         })
     }
@@ -132,6 +137,7 @@ impl SearchLists {
         ensures lists { AreListsOf (seen view.now) self.new }
         ensures scopes { OnOk result (AreListed (seen view.now) first self.new) }
     {
+        self.orders.add_for(alloc, view, first)?;
         let end = view.objects.len() + view.added.len();
         let owners = Owners::between(alloc, view, first, end)?;
         let scopes = Scopes::of(alloc, view, &self.links, owners)?;
@@ -192,6 +198,14 @@ impl SearchLists {
         ensures { (s : Seen) (o : loaded) → AreListsOf s self.now → slice_get s.objects place ≡ Some o → option_copied result ≡ Some (places_of o.object) }
     {
         names_at(self.names.as_slice(), place)
+    }
+
+    /// The definitions of the object at a place in load order by their names, if they were put in order, of any
+    /// namespace whose lists these are.
+    pub fn order_at(&self, place: usize) -> Option<&NameOrder>
+        ensures { (s : Seen) (o : loaded) → AreListsOf s self.now → slice_get s.objects place ≡ Some o → IfSome result (λ order. IsNameOrder o.object order.now) }
+    {
+        self.orders.get(place)
     }
 
     /// The place in load order of the object with a serial, of any namespace whose lists these are.

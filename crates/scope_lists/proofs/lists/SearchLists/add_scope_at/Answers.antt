@@ -7,5 +7,6 @@ pub returns-clause-lists : goal.returns-clause-lists
 returns-clause-lists c = record {
   links = c.requires.links;
   names = c.requires.names;
+  orders = c.requires.orders;
   scopes = subst (λ (x : Asking). AreScopes x.seen c.add.new.self) c.in_ok-scopes.ensures c.add.ensures.scopes;
 }
