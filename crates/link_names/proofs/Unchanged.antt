@@ -80,6 +80,7 @@ module _ (s : Seen) (opens : List OpenRec) (same : map root_of opens ≡ map roo
   roots_stay lists are = record {
     links = record { places = are.links.places; found = are.links.found; all = are.links.all };
     names = are.names;
+    orders = are.orders;
     scopes = record {
       global = are.scopes.global;
       each = λ place o found at has. (let was = are.scopes.each place o found at has in record { alike = λ pick. was.alike pick ∙ ap (first_with pick) (sym (same_scope o)); placed = was.placed });

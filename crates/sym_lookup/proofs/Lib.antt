@@ -1,4 +1,2 @@
-pub mod MadeTables
-pub mod OwnTable
 pub mod Searches
 pub mod SymFind

@@ -1,4 +1,5 @@
 pub mod Found
 pub mod GnuWalks
 pub mod Kept
+pub mod Offers
 pub mod SysvWalks

@@ -1,4 +1,5 @@
 pub mod Best
 pub mod Found
+pub mod Offers
 pub mod Reference
 pub mod Walks

@@ -4,18 +4,14 @@
 //! gives. [`References`] gives that for all relocations of one object: each symbol is looked up once.
 //! Where the references of an object are searched is known from search lists (`scope_lists`), which know
 //! where the names of each object's versions stand, too, and each object is searched by its hash table
-//! (`sym_find`). The hashes of a reference's name are computed once. None of them takes memory, but for
-//! making [`References`]: for objects in whose own tables walks are long (a file may put all its names into
-//! one bucket) these get a table of ours, if there are so many references that it pays.
+//! (`sym_find`), or in the order of its names where the lists have that. The hashes of a reference's name are
+//! computed once. None of them takes memory, but for making [`References`].
 //!
 //! `sym_find` follows the one chain of a hash table to which a name's hash leads ([`Find`]).
 #![tactic(auto)]
 
 mod law;
-mod long_chains;
 mod looking;
-mod quick_table;
-mod quick_tables;
 mod references;
 mod searched;
 mod searching;

@@ -92,7 +92,7 @@ fn lookup_for(
     } else {
         let names = owner_names(lists, owner);
         let sought = sought_of(&owner.object, names, symbol);
-        let found = first_in_parts(view, lists, None, &sought, parts, owner.serial, copy);
+        let found = first_in_parts(view, lists, &sought, parts, owner.serial, copy);
         choice_of(symbol, found)
     }
 }

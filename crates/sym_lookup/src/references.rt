@@ -248,7 +248,7 @@ impl<'a> References<'a> {
         requires scope { ArePartsOf (seen view.now) owner.now parts }
         ensures { IfOk result (λ references. references ≡ record { seen = seen view.now; owner = owner.now }) }
     {
-        let searching = Searching::of(alloc, view, lists, names, parts, owner)?;
+        let searching = Searching::new(view, lists, names, parts, owner);
         let kept = nothing_kept(alloc, owner.object.symbols.len())?;
         let copied = nothing_kept(alloc, copied_symbols(&owner.object))?;
         Ok(References {

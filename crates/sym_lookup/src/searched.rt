@@ -8,16 +8,14 @@ ghost use Rattle.ld_base.specs.declared.linking.Loaded.{Loaded as Object};
 ghost use Rattle.scope_rule.specs.Choose.{first_with, pick_at};
 ghost use Rattle.scope_rule.specs.Seen.{Seen, seen};
 ghost use Rattle.scope_lists.specs.Lists.{AreListsOf, IsSearched, at_place};
+ghost use Rattle.scope_lists.specs.NameOrder.{IsNameOrder};
 ghost use Rattle.scope_lists.specs.Searched.{in_parts, serials_in};
-ghost use Rattle.sym_hash.specs.Reached.{IsTableOf};
 ghost use Rattle.sym_lookup.specs.Looking.{HaveTables, outside};
-ghost use Rattle.sym_lookup.specs.QuickTables.{IsQuick, MayBeQuick};
 ghost use Rattle.scope_lists.specs.VersionPlaces.Places.{places_of};
 
-use crate::quick_tables::QuickTables;
-use crate::sym_find::{Find, Sought, rules_out};
-use ld_base::{HashTable, Loaded, Serial, one_pick};
-use scope_lists::{ScopeParts, SearchLists, Searched, VersionNames, object_at};
+use crate::sym_find::{Find, Sought, pick_ordered, rules_out};
+use ld_base::{Loaded, Serial, one_pick};
+use scope_lists::{NameOrder, ScopeParts, SearchLists, Searched, VersionNames, object_at};
 use scope_rule::{View, linker_symbol};
 
 /// The object at a place, if any.
@@ -37,29 +35,11 @@ pub(crate) fn names_of(lists: &SearchLists, place: Option<usize>) -> Option<&Ver
     }
 }
 
-/// The hash table that was made for the object at a place, if one was.
-fn made_table(tables: Option<&QuickTables>, place: Option<usize>) -> Option<&HashTable>
-    ensures { (s : Seen) (o : Object) → MayBeQuick s tables.entry → at_place s place ≡ Some o → IfSome result (λ t. IsQuick o t.now) }
+/// The definitions of the object at a place by their names, if there is one and they were put in order.
+fn order_of(lists: &SearchLists, place: Option<usize>) -> Option<&NameOrder>
+    ensures { (s : Seen) (o : Object) → AreListsOf s lists.now → at_place s place ≡ Some o → IfSome result (λ order. IsNameOrder o.object order.now) }
 {
-    match (tables, place) {
-        (Some(tables), Some(place)) => tables.get(place),
-        _ => None,
-    }
-}
-
-/// A hash table of the object at a place: one that was made for it, else its own.
-fn table_of<'a>(
-    tables: Option<&'a QuickTables>,
-    place: Option<usize>,
-    loaded: &'a Loaded,
-) -> &'a HashTable
-    ensures { (s : Seen) → MayBeQuick s tables.entry → at_place s place ≡ Some loaded.now
-        → IsTableOf loaded.now.table loaded.now.object → IsTableOf result.now loaded.now.object }
-{
-    match made_table(tables, place) {
-        Some(table) => table,
-        None => &loaded.table,
-    }
+    lists.order_at(place?)
 }
 
 /// What the object at a place has for a reference: most often the bloom filter of its own table tells that it
@@ -67,13 +47,11 @@ fn table_of<'a>(
 fn found_in(
     view: &View,
     lists: &SearchLists,
-    tables: Option<&QuickTables>,
     sought: &Sought,
     place: Option<usize>,
     loaded: &Loaded,
 ) -> Option<u32>
     requires lists { AreListsOf (seen view.now) lists.now }
-    requires quick { MayBeQuick (seen view.now) tables }
     requires there { at_place (seen view.now) place ≡ Some loaded.now }
     requires table { IsTableOf loaded.now.table loaded.now.object }
     ensures { result ≡ pick_of loaded.now.object sought.now.name sought.now.want }
@@ -83,20 +61,16 @@ fn found_in(
         return None;
     }
     let names = names_of(lists, place);
-    table_of(tables, place, loaded).find_sought(&loaded.object, names, sought)
+    match order_of(lists, place) {
+        Some(order) => pick_ordered(&loaded.object, names, order, sought),
+        None => loaded.table.find_sought(&loaded.object, names, sought),
+    }
 }
 
 /// What an object of the namespace, or the linker's own, has for a reference.
 #[tactic(auto, unfolding(scope_rule::specs::Choose::pick_at))]
-fn found_at(
-    view: &View,
-    lists: &SearchLists,
-    tables: Option<&QuickTables>,
-    sought: &Sought,
-    searched: Searched,
-) -> Option<u32>
+fn found_at(view: &View, lists: &SearchLists, sought: &Sought, searched: Searched) -> Option<u32>
     requires lists { AreListsOf (seen view.now) lists.now }
-    requires quick { MayBeQuick (seen view.now) tables }
     requires tables { HaveTables (seen view.now) }
     requires searched { IsSearched (seen view.now) searched }
     ensures { result ≡ pick_at (seen view.now) sought.now.name sought.now.want searched.serial }
@@ -105,7 +79,7 @@ fn found_at(
         return linker_symbol(sought.name());
     }
     match object_of(view, searched.place) {
-        Some(loaded) => found_in(view, lists, tables, sought, searched.place, loaded),
+        Some(loaded) => found_in(view, lists, sought, searched.place, loaded),
         None => None,
     }
 }
@@ -114,14 +88,12 @@ fn found_at(
 fn found_outside(
     view: &View,
     lists: &SearchLists,
-    tables: Option<&QuickTables>,
     sought: &Sought,
     searched: Searched,
     owner: Serial,
     copy: bool,
 ) -> Option<u32>
     requires lists { AreListsOf (seen view.now) lists.now }
-    requires quick { MayBeQuick (seen view.now) tables }
     requires tables { HaveTables (seen view.now) }
     requires searched { IsSearched (seen view.now) searched }
     ensures { result ≡ outside copy owner (pick_at (seen view.now) sought.now.name sought.now.want) searched.serial }
@@ -129,7 +101,7 @@ fn found_outside(
     if copy && searched.serial == owner {
         None
     } else {
-        found_at(view, lists, tables, sought, searched)
+        found_at(view, lists, sought, searched)
     }
 }
 
@@ -137,20 +109,18 @@ fn found_outside(
 fn first_searched(
     view: &View,
     lists: &SearchLists,
-    tables: Option<&QuickTables>,
     sought: &Sought,
     searched: &[Searched],
     owner: Serial,
     copy: bool,
 ) -> Option<(Serial, u32)>
     requires lists { AreListsOf (seen view.now) lists.now }
-    requires quick { MayBeQuick (seen view.now) tables }
     requires tables { HaveTables (seen view.now) }
     requires searched { AllByRecursion (IsSearched (seen view.now)) searched.now }
     ensures { result ≡ first_with (outside copy owner (pick_at (seen view.now) sought.now.name sought.now.want)) (serials_in searched.now) }
 {
     for one in searched {
-        if let Some(index) = found_outside(view, lists, tables, sought, *one, owner, copy) {
+        if let Some(index) = found_outside(view, lists, sought, *one, owner, copy) {
             return Some((one.serial, index));
         }
     }
@@ -161,25 +131,23 @@ fn first_searched(
 pub(crate) fn first_in_parts(
     view: &View,
     lists: &SearchLists,
-    tables: Option<&QuickTables>,
     sought: &Sought,
     parts: ScopeParts,
     owner: Serial,
     copy: bool,
 ) -> Option<(Serial, u32)>
     requires lists { AreListsOf (seen view.now) lists.now }
-    requires quick { MayBeQuick (seen view.now) tables }
     requires tables { HaveTables (seen view.now) }
     requires searched { AllByRecursion (IsSearched (seen view.now)) (in_parts parts) }
     ensures { result ≡ first_with (outside copy owner (pick_at (seen view.now) sought.now.name sought.now.want)) (serials_in (in_parts parts.entry)) }
 {
-    let before = first_searched(view, lists, tables, sought, parts.before, owner, copy);
+    let before = first_searched(view, lists, sought, parts.before, owner, copy);
     if before.is_some() {
         return before;
     }
-    let global = first_searched(view, lists, tables, sought, parts.global, owner, copy);
+    let global = first_searched(view, lists, sought, parts.global, owner, copy);
     if global.is_some() {
         return global;
     }
-    first_searched(view, lists, tables, sought, parts.after, owner, copy)
+    first_searched(view, lists, sought, parts.after, owner, copy)
 }

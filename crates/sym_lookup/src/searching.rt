@@ -1,12 +1,10 @@
 //! What searches for the references of one object.
 
 use crate::looking::{sought_of, stays_own, version_asked};
-use crate::quick_tables::QuickTables;
 use crate::searched::first_in_parts;
 use ld_base::{Choice, Loaded, Name, Symbol};
 use scope_lists::{ScopeParts, SearchLists, VersionNames};
 use scope_rule::{View, choice_of};
-use std::alloc::{AllocError, Global};
 use std::marker::Model;
 
 /// An object, and what its references are searched in.
@@ -19,7 +17,6 @@ pub(crate) struct Searching<'a> {
     /// The names of the owner's versions.
     names: Option<&'a VersionNames>,
     parts: ScopeParts<'a>,
-    tables: QuickTables,
 }
 
 impl<'a> Model for Searching<'a> {
@@ -27,7 +24,6 @@ impl<'a> Model for Searching<'a> {
     ghost use Rattle.scope_rule.specs.Seen.{seen};
     ghost use Rattle.scope_lists.specs.Lists.{AreListsOf, ArePartsOf};
     ghost use Rattle.sym_lookup.specs.Looking.{HaveTables};
-    ghost use Rattle.sym_lookup.specs.QuickTables.{AreQuick};
     ghost use Rattle.sym_lookup.specs.References.{Referring};
     ghost use Rattle.scope_lists.specs.VersionPlaces.Places.{places_of};
 
@@ -39,12 +35,11 @@ impl<'a> Model for Searching<'a> {
         AreListsOf (seen s.view) s.lists.now
         × IfSome s.names (λ n. n.now ≡ places_of s.owner.now.object)
         × HaveTables (seen s.view)
-        × ArePartsOf (seen s.view) s.owner.now s.parts
-        × AreQuick (seen s.view) s.tables };
+        × ArePartsOf (seen s.view) s.owner.now s.parts };
 }
 
 impl<'a> Searching<'a> {
-    ghost use Rattle.std.specs.Prelude.{◌≡◌, ◌<◌, length, IfOk, IfSome};
+    ghost use Rattle.std.specs.Prelude.{◌≡◌, ◌<◌, length, IfSome};
     ghost use Rattle.std.specs.Option.{option_copied};
     ghost use Rattle.scope_rule.specs.Choose.{choose_for, want_of};
     ghost use Rattle.scope_rule.specs.Seen.{seen};
@@ -53,29 +48,26 @@ impl<'a> Searching<'a> {
     ghost use Rattle.scope_lists.specs.VersionPlaces.Places.{places_of};
 
     /// Those of an object with these names of versions, which these are the parts of the scope of.
-    pub(crate) fn of(
-        alloc: Global,
+    pub(crate) fn new(
         view: &View<'a>,
         lists: &'a SearchLists,
         names: Option<&'a VersionNames>,
         parts: ScopeParts<'a>,
         owner: &'a Loaded,
-    ) -> Result<Self, AllocError>
+    ) -> Self
         requires lists { AreListsOf (seen view.now) lists.now }
         requires names { IfSome names (λ n. n.now ≡ places_of owner.now.object) }
         requires tables { HaveTables (seen view.now) }
         requires scope { ArePartsOf (seen view.now) owner.now parts }
-        ensures { IfOk result (λ searching. searching ≡ record { seen = seen view.now; owner = owner.now }) }
+        ensures { result ≡ record { seen = seen view.now; owner = owner.now } }
     {
-        let tables = QuickTables::of(alloc, view, parts, owner)?;
-        Ok(Searching {
+        Searching {
             view: *view,
             lists,
             owner,
             names,
             parts,
-            tables,
-        })
+        }
     }
 
     /// The version that a reference to a symbol of the object asks for.
@@ -97,7 +89,6 @@ impl<'a> Searching<'a> {
             let found = first_in_parts(
                 &self.view,
                 self.lists,
-                Some(&self.tables),
                 &sought,
                 self.parts,
                 owner.serial,

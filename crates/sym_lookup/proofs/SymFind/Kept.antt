@@ -10,7 +10,8 @@ use Rattle.ld_base.specs.declared.object.Symbol.{Symbol}
 use Rattle.ld_base.specs.Pick.{is_offer}
 use Rattle.ld_base.specs.Symbol.{is_hidden_version}
 use Rattle.ld_base.specs.Taken.{Exports}
-use Rattle.sym_lookup.specs.SymFind.Best.{FirstOf, Knows, OnlyOf, after, exports, fitting, least, made, nothing, passes, precedes, seen_too, sighted}
+use Rattle.scope_lists.specs.NameOrder.{exports}
+use Rattle.sym_lookup.specs.SymFind.Best.{FirstOf, Knows, OnlyOf, after, fitting, least, made, nothing, passes, precedes, seen_too, sighted}
 use Rattle.sym_lookup.specs.declared.sym_find.best.Best.{Best}
 use Rattle.sym_lookup.specs.declared.sym_find.best.Search.{Search}
 use Rattle.sym_lookup.specs.declared.sym_find.best.Sight.{Sight}

@@ -9,6 +9,7 @@ use Rattle.ld_base.specs.Marks.{is_marked}
 use Rattle.ld_base.specs.Pick.{is_offer, is_wanted}
 use Rattle.ld_base.specs.Symbol.{version_index}
 use Rattle.ld_base.specs.Taken.{fits, in_sight, Exports}
+use Rattle.scope_lists.specs.NameOrder.{exports}
 use Rattle.sym_lookup.specs.SymFind.Found.{Nowhere, Least, Only}
 use Rattle.sym_lookup.specs.declared.sym_find.best.Best.{Best}
 use Rattle.sym_lookup.specs.declared.sym_find.best.Search.{Search}
@@ -30,10 +31,6 @@ fitting w s = is_offer w.object.now w.name.now s && passes w.test s
 
 abbrev pub sighted : Search → Symbol → Bool
 sighted w s = in_sight w.object.now w.name.now s
-
--- the symbol may be exported, and passes
-abbrev pub exports : Object → (Symbol → Bool) → ℕ → Bool
-exports o p k = nat_le o.first_exported k && option_map_or p (slice_get o.symbols k) false
 
 -- the definition at an index is of a version that is wanted, or the object has no versions
 abbrev pub IsWantedAt : Object → Want → ℕ → Type 0

@@ -7,6 +7,7 @@ ghost use Rattle.ld_base.specs.Taken.{Exports, fits};
 ghost use Rattle.ld_base.specs.declared.object.Symbol.{Symbol};
 ghost use Rattle.sym_lookup.specs.SymFind.Best.{IsWantedAt, Keeps, KeepsAll, Knows, passes};
 ghost use Rattle.sym_lookup.specs.SymFind.Found.{Finds, Nowhere};
+ghost use Rattle.sym_lookup.specs.SymFind.Offers.{is_wanted_at};
 ghost use Rattle.sym_lookup.specs.SymFind.Reference.{want_as};
 ghost use Rattle.sym_hash.specs.Reached.{IsTableOf, Reached};
 ghost use Rattle.scope_lists.specs.VersionPlaces.Places.{places_of};
@@ -86,9 +87,14 @@ fn is_wanted(object: &Object, names: Option<&VersionNames>, asked: Asked, symbol
 }
 
 /// The same of the definition at an index.
-fn is_wanted_at(object: &Object, names: Option<&VersionNames>, asked: Asked, index: u32) -> bool
+pub(crate) fn is_wanted_at(
+    object: &Object,
+    names: Option<&VersionNames>,
+    asked: Asked,
+    index: u32,
+) -> bool
     requires { IfSome names (λ n. n.now ≡ places_of object.now) }
-    ensures { (s : Symbol) → slice_get object.now.symbols index ≡ Some s → result ≡ is_wanted object.now (want_as asked.entry) s }
+    ensures { result ≡ is_wanted_at object.now (want_as asked.entry) index }
 {
     match object.symbols.as_slice().get(index as usize) {
         Some(symbol) => is_wanted(object, names, asked, symbol),
