@@ -56,7 +56,10 @@ impl LinkState {
                 root,
                 added,
                 ranges,
-            } => self.open_new(hart, ask, ns, root, added, ranges, &choices),
+            } => {
+                let added = self.share(added)?;
+                self.open_new(hart, ask, ns, root, added, ranges, &choices)
+            }
             OpenAnswer::Absent | OpenAnswer::Refused(_) => self.note_absent(hart, ask),
         }
     }
@@ -75,6 +78,18 @@ impl LinkState {
         self.journal.make_room(1)?;
         self.journal.push(absent_event(hart, ask));
         Ok(nothing(self.alloc))
+    }
+
+    /// The new objects, in the memory of what their paths had last where that is the same.
+    ///
+    /// # Errors
+    ///
+    /// Want of memory.
+    fn share(&mut self, added: Added) -> Result<Added, AllocError>
+        ensures added { IfOk result (λ shared. shared ≡ added) }
+        ensures same { self.new ≡ self.old }
+    {
+        self.latest.share(self.alloc, added)
     }
 
     /// An opening that isn't absent: what memory gets of its new objects.
