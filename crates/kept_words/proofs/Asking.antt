@@ -30,6 +30,7 @@ use Rattle.slot_bind.specs.declared.slot.Asked.TheVariants as asked
 use Rattle.slot_bind.specs.Grants.{asked_view}
 use Rattle.history_state.specs.After.{after}
 use Rattle.history_state.specs.Allowed.{Allowed}
+use Rattle.history_state.specs.Changes.{taken}
 use Rattle.history_state.specs.Grants.{is_open}
 use Rattle.history_state.specs.Setting.{Setting}
 use Rattle.history_state.specs.State.{State}
@@ -52,6 +53,7 @@ use Rattle.kept_words.proofs.Keeping.{alike_kept, begun_short, counted_number, i
 use Rattle.kept_words.proofs.Settled.{settled_stays}
 use Rattle.kept_words.proofs.Settling.{slot_word}
 use Rattle.kept_words.proofs.Staying.{slot_on, states_stay}
+use Rattle.kept_words.proofs.Values.{settled_push}
 
 -- ---- the row of a grant whose fate is known
 
@@ -121,6 +123,8 @@ pub record SeesLost (k : KeeperView) (words : List Kept) (d : ℕ) (standing : S
 -- the event of a settled grant leaves all of the state but the grant
 pub record Settling (s : State) (e : Event) (number : ℕ) (standing : Standing) : Type 0 where
   pub state : step s e ≡ settle number standing s
+  pub takes : taken s e ≡ []
+  pub stays : (hart : ℕ) (set : List ℕ) → e ≢ events.Unmapped hart set
   pub nobodys : hart_of e ≡ None
 
 module _ (w : Setting) (begun : List Event) (k : KeeperView) (kept : AreKept w begun k) (h : ℕ) (g : Grant) (fate : Fate) (standing : Standing) (e : Event) (low : h < harts_at_most)
@@ -319,10 +323,11 @@ module _ (w : Setting) (begun : List Event) (k : KeeperView) (kept : AreKept w b
       lost = lost_there;
     };
     seen = subst (λ (s : State). LostHaveSeen s l) (sym state_is) lost_seen;
+    settled = settled_push k.events e (λ hart set is. absurd (event.stays hart set is)) kept.settled;
     issued = λ m x few there. issued_stays w k.events (e ∷ []) m x (kept.issued m x few (subst (λ (es : List Entry). Contains es x) (fated_issued k h g fate kept.long low pending m) there));
     handed = counted_stays begun (fated_in fate h k) e (begun_short w begun k kept) event.nobodys
         (λ m few. ap event_numbers (fated_issued k h g fate kept.long low pending m) ∙ kept.handed m few);
-    gone = gone_beside k.events e k.retired kept.gone;
+    gone = gone_beside k.events e k.retired event.takes kept.gone;
   }
 
 -- ---- what an ask answered
@@ -344,7 +349,7 @@ asked_kept won lost w begun k h state g asked.Open accepts kept low pending tell
 asked_kept won lost w begun k h state g asked.Won accepts kept low pending tells says saw =
     settled_kept w begun k kept h g FateWon Bound (events.Bound (number_in k.events h g)) low pending (tells.of_slot g pending) Settles.as_bound
     (won w.machine k.events k (number_in k.events) h state g accepts (legal_is_lawful w k.events kept.legal) kept.words low pending tells says)
-    (record { state = refl; nobodys = refl }) k.words
+    (record { state = refl; takes = refl; stays = λ hart set is. absurd (cc); nobodys = refl }) k.words
     (record { whole = kept.long.0; same = λ d. refl; fixed_on = λ d x is. is })
     (λ is. absurd (let q : FateWon ≡ FateLost = is in cc))
     (record {
@@ -357,7 +362,7 @@ asked_kept won lost w begun k h state g (asked.Lost found) accepts kept low pend
     (tells.in_row g pending)
     (settled_kept w begun k kept h g FateLost (Lost found) (events.Lost (number_in k.events h g) found) low pending (tells.of_slot g pending) (Settles.as_lost found)
     (lost w.machine k.events k (number_in k.events) h state found g accepts (legal_is_lawful w k.events kept.legal) kept.words kept.long low pending tells saw)
-    (record { state = refl; nobodys = refl }) (with_kept (place_of g.entry.slot) seen k).words
+    (record { state = refl; takes = refl; stays = λ hart set is. absurd (cc); nobodys = refl }) (with_kept (place_of g.entry.slot) seen k).words
     (record { whole = length-set k.words (place_of g.entry.slot) seen ∙ kept.long.0; same = sees_same; fixed_on = stays_fixed })
     (λ is. (found, ap (λ (y : Kept). y.fixed) here_is, refl))
     (record {

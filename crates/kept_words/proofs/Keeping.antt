@@ -44,12 +44,13 @@ use Rattle.word_holds.specs.Shared.{IsOfState}
 use Rattle.kept_words.specs.Gone.{HaveGone}
 use Rattle.kept_words.specs.Handed.{IsIssued, event_numbers, own_numbers}
 use Rattle.kept_words.specs.Keeping.{AlikeKept, AnsweredKept, AwaitedIsAlike, IsAlike, QuietKept}
-use Rattle.kept_words.specs.Kept.{AreKept, AreRows, HaveFates, IsFateEvent, LostHaveSeen, ShowsLoss}
+use Rattle.kept_words.specs.Kept.{AreKept, AreRows, HaveFates, IsFateEvent, LostHaveSeen, ShowsLoss, WereSettled}
 use Rattle.kept_words.specs.Staying.{IsGrantEvent, SameGrants, leaves_memory, number_by, number_in}
-use Rattle.kept_words.proofs.Gone.{gone_beside}
+use Rattle.kept_words.proofs.Gone.{gone_beside, leaves_none}
 use Rattle.kept_words.proofs.Handed.{answered_stays, handed_stays, issued_stays}
 use Rattle.kept_words.proofs.Seen.{seen_on}
 use Rattle.kept_words.proofs.Staying.{events_stay, stands_back, states_stay}
+use Rattle.kept_words.proofs.Values.{settled_beside}
 
 -- ---- a longer journal
 
@@ -221,6 +222,7 @@ alike_kept w begun k l is kept = record {
   granted = λ m g low stands. subst (λ (es : List Event). IsGrantEvent es m g) (sym is.events) (kept.granted m g low (stands_back k l (alike_grants k l is) m g stands));
   rows = rows_on k l [] (is.events ∙ sym (append-nil k.events)) (λ n f e there settles. none_in e there) is.words is.pending is.settled is.losses kept.rows;
   seen = subst (λ (es : List Event). LostHaveSeen (after es) l) (sym is.events) (seen_on (after k.events) (after k.events) k l refl refl is.words is.settled kept.seen);
+  settled = subst WereSettled (sym is.events) kept.settled;
   issued = λ h e low there. subst (λ (es : List Event). IsIssued w es h e) (sym is.events) (kept.issued h e low (subst (λ (es : List Entry). Contains es e) (is.issued h) there));
   handed = λ h low. ap event_numbers (is.issued h) ∙ kept.handed h low
       ∙ ap (λ (es : List Event). own_numbers h (length begun + 1) (drop (length begun) es)) (sym is.events);
@@ -356,6 +358,7 @@ quiet_kept w begun k h e entry kept own_low own leaves may is = record {
   seen = subst (λ (s : State). LostHaveSeen s (handed_over h entry (counted e k))) (sym (after_push k.events e))
       (seen_on (after k.events) (step (after k.events) e) k (handed_over h entry (counted e k)) (events_stay (after k.events) e leaves).images (events_stay (after k.events) e leaves).grants
       (λ d. refl) same.settled kept.seen);
+  settled = settled_beside k.events e leaves kept.settled;
   issued = λ m x few there. ⊎_elim
       (λ (old : Contains (row_of k m).issued x). issued_stays w k.events (e ∷ []) m x (kept.issued m x few old))
       (λ (new : (m ≡ h) × (entry ≡ x)).
@@ -363,7 +366,7 @@ quiet_kept w begun k h e entry kept own_low own leaves may is = record {
       (IsIssued.of_event k.events [] e refl own (no_grant e leaves) (sym new.1 ∙ is)))
       (handed_issued (counted e k) h entry kept.long low m x there);
   handed = handed_stays begun k h e entry kept.long low (begun_short w begun k kept) own (ap (λ (x : Entry). x.mark) is) (ap (λ (x : Entry). x.number) is) kept.handed;
-  gone = gone_beside k.events e k.retired kept.gone;
+  gone = gone_beside k.events e k.retired (leaves_none (after k.events) e leaves) kept.gone;
 }
   where
     low : h < harts_at_most
@@ -389,6 +392,7 @@ answered_kept w begun k h entry kept own_low marks is = record {
   granted = λ m g few stands. kept.granted m g few (stands_back k (handed_over h entry k) same m g stands);
   rows = rows_on k (handed_over h entry k) [] (sym (append-nil k.events)) (λ n f e there settles. none_in e there) (λ d. refl) same.pending same.settled refl kept.rows;
   seen = seen_on (after k.events) (after k.events) k (handed_over h entry k) refl refl (λ d. refl) same.settled kept.seen;
+  settled = kept.settled;
   issued = λ m x few there. ⊎_elim
       (λ (old : Contains (row_of k m).issued x). kept.issued m x few old)
       (λ (new : (m ≡ h) × (entry ≡ x)). subst (λ (i : ℕ). IsIssued w k.events i x) (sym new.0) (subst (IsIssued w k.events h) new.1 is))

@@ -5,10 +5,11 @@ mod Keeping
 mod Over
 mod Posted
 mod PostedKept
-mod Posting
+pub mod Posting
 pub mod Remade
 mod RemadeKept
 mod Seen
 mod Settled
 pub mod Settling
 mod Staying
+pub mod Values

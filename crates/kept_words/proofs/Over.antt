@@ -15,7 +15,8 @@ use Rattle.word_rule.specs.declared.entry.Grant.{Grant}
 use Rattle.word_rule.specs.declared.view.Fate.{Fate}
 use Rattle.word_rule.specs.declared.view.Fate.TheVariants.{Lost as FateLost, Won}
 use Rattle.word_rule.specs.declared.view.KeeperView.{KeeperView}
-use Rattle.word_rule.specs.Allowed.{IsOf, IsWon, Stands}
+use Rattle.word_rule.specs.Allowed.{IsOf, IsWon}
+use Rattle.word_rule.specs.KeeperSteps.{AreDecided}
 use Rattle.word_rule.specs.Layout.{harts_at_most, place_of}
 use Rattle.word_rule.specs.Slots.{Rising}
 use Rattle.word_rule.specs.Views.{kept_at, row_of, exchanges_of}
@@ -31,7 +32,7 @@ use Rattle.history_memory.specs.Remade.{HasSlot}
 use Rattle.word_holds.specs.Shared.{IsOfState}
 use Rattle.kept_words.specs.Handed.{event_numbers}
 use Rattle.kept_words.specs.Kept.{HasSeen, LostHaveSeen, IsFateEvent}
-use Rattle.kept_words.specs.Over.{FatesAreExchanges, IsOver, TrailsAreTrue}
+use Rattle.kept_words.specs.Over.{FatesAreExchanges, TrailsAreTrue}
 use Rattle.kept_words.specs.Staying.{number_in}
 use Rattle.kept_words.proofs.Remade.{place_slot}
 use Rattle.kept_words.proofs.Settling.{StateLaws, loaded, place_back, same_slot}
@@ -107,21 +108,22 @@ fates_are_exchanges w begun k n f e kept there is =
 
 -- ---- grants
 
-module _ (s : State) (laws : StateLaws s) (k : KeeperView) (number : ℕ → Grant → ℕ) (is : IsOfState s k number) (over : IsOver k) (seen : LostHaveSeen s k) where
-  won : (m : ℕ) (g : Grant) → m < harts_at_most → Stands (row_of k m) g → IsWon (row_of k m) g
-  won m g low (inl waits) = absurd (let both : None ≡ Some g = sym (over.settled m low) ∙ waits in cc)
-  won m g low (inr done) = done
-
-  -- a grant of a slot that is there isn't open
-  pub none_open : (x : Granting) → HasSlot s x → x.standing ≢ Open
-  none_open x slot open_yet =
+module _ (s : State) (laws : StateLaws s) (k : KeeperView) (number : ℕ → Grant → ℕ) (is : IsOfState s k number) where
+  -- a grant of a slot that is there isn't open, where all fates are known
+  pub none_open : ((m : ℕ) → m < harts_at_most → (row_of k m).pending ≡ None) → (x : Granting) → HasSlot s x → x.standing ≢ Open
+  none_open settled x slot open_yet =
       let y = is.stands slot.0 x slot.1.place slot.1.there (inr open_yet) slot.1.of in
-      let both : Bound ≡ Open = sym (y.6.bound (won y.0 y.1 y.2 y.3)) ∙ open_yet in
+      let known : IsWon (row_of k y.0) y.1 = ⊎_elim
+      (λ (waits : (row_of k y.0).pending ≡ Some y.1). absurd (let none : None ≡ Some y.1 = sym (settled y.0 y.2) ∙ waits in cc))
+      (λ (done : IsWon (row_of k y.0) y.1). done)
+      y.3 in
+      let both : Bound ≡ Open = sym (y.6.bound known) ∙ open_yet in
       cc
 
-  -- what a lost grant of a mapped object saw is its slot's value
-  pub lost_settled : (x : Granting) (saw : ℕ) → Contains s.grants x → x.standing ≡ Lost saw → IsMapped s x.owner → Settled s x saw
-  lost_settled x saw there lost mapped = dite (ℕ_discrete (kept_at k (place_of was.address)).value (kept_at k (place_of was.address)).lazy)
+  -- what a lost grant of a mapped object saw is its slot's value, where no grant of the object is open
+  pub lost_settled : AreDecided k → LostHaveSeen s k → (x : Granting) (saw : ℕ) → ((y : Granting) → Contains s.grants y → y.standing ≡ Open → y.owner ≢ x.owner)
+      → Contains s.grants x → x.standing ≡ Lost saw → IsMapped s x.owner → Settled s x saw
+  lost_settled decided seen x saw closed there lost mapped = dite (ℕ_discrete (kept_at k (place_of was.address)).value (kept_at k (place_of was.address)).lazy)
       (λ (lazy : (kept_at k (place_of was.address)).value ≡ (kept_at k (place_of was.address)).lazy). inr (by_grant lazy))
       (λ (other : (kept_at k (place_of was.address)).value ≢ (kept_at k (place_of was.address)).lazy). inl (at_load other))
     where
@@ -144,14 +146,17 @@ module _ (s : State) (laws : StateLaws s) (k : KeeperView) (number : ℕ → Gra
 
       by_grant : (kept_at k (place_of was.address)).value ≡ (kept_at k (place_of was.address)).lazy → IsOnlyBound s x.owner x.slot saw
       by_grant lazy =
-          let decided = over.decided (place_of was.address) was.seen.of.0 in
-          let y = decided.lost was.seen.hart was.seen.grant was.seen.low was.seen.lost was.seen.of lazy in
-          let known = won y.0 y.1 y.2 y.3 in
-          let value : y.1.entry.value ≡ saw = decided.won y.0 y.1 saw y.2 known y.4 was.seen.fixed in
+          let its = decided (place_of was.address) was.seen.of.0 in
+          let y = its.lost was.seen.hart was.seen.grant was.seen.low was.seen.lost was.seen.of lazy in
           let place : place_of y.1.entry.slot ≡ place_of was.address = place_back (place_of was.address) y.1.entry.slot y.4.1 in
           let z = is.granted y.0 y.1 y.2 y.3 (subst (λ (d : ℕ). IsOf (kept_at k) d y.1) (sym place) y.4) in
           let address : y.1.entry.slot ≡ was.address = place_slot y.1.entry.slot was.address y.4.1 was.word in
           let same = same_slot s laws was.address x.owner x.slot was.word was.at z.0.owner z.0.slot (subst (λ (a : ℕ). IsSlotAt s a z.0.owner z.0.slot) address z.2.slot) in
+          let known : IsWon (row_of k y.0) y.1 = ⊎_elim
+          (λ (waits : (row_of k y.0).pending ≡ Some y.1). absurd (closed z.0 z.2.there (z.2.open_yet waits) same.0))
+          (λ (done : IsWon (row_of k y.0) y.1). done)
+          y.3 in
+          let value : y.1.entry.value ≡ saw = its.won y.0 y.1 saw y.2 known y.4 was.seen.fixed in
           record {
             grant = z.0;
             there = z.2.there;

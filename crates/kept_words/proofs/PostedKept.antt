@@ -39,6 +39,7 @@ use Rattle.kept_words.proofs.Posted.{posted_stays}
 use Rattle.kept_words.proofs.Posting.{at_end}
 use Rattle.kept_words.proofs.Seen.{seen_more, seen_on}
 use Rattle.kept_words.proofs.Staying.{states_stay}
+use Rattle.kept_words.proofs.Values.{settled_push}
 
 -- ---- the row of the grant
 
@@ -154,6 +155,7 @@ module _ (w : Setting) (begun : List Event) (k : KeeperView) (g : NewGrant) (x :
     seen = subst (λ (s : State). LostHaveSeen s (posted g.hart x (counted e k))) (sym (after_push k.events e))
         (seen_on new_state new_state k (posted g.hart x (counted e k)) refl refl (λ d. refl) (settled_same (counted e k) g.hart x kept.long low)
         (seen_more (after k.events) k (granting_of g) refl kept.seen));
+    settled = settled_push k.events (event_of g) (λ hart set is. absurd (cc)) kept.settled;
     issued = λ m y few there. ⊎_elim
         (λ (old : Contains (row_of k m).issued y). issued_stays w k.events (e ∷ []) m y (kept.issued m y few old))
         (λ (new : (m ≡ g.hart) × (x.entry ≡ y)).
@@ -161,5 +163,5 @@ module _ (w : Setting) (begun : List Event) (k : KeeperView) (g : NewGrant) (x :
         (subst (IsIssued w (k.events ++ event_of g ∷ []) g.hart) new.1 (IsIssued.of_grant k.events [] g.number g.owner g.slot g.value g.choice refl entry)))
         (was_issued (counted e k) g.hart x kept.long low m y there);
     handed = posted_handed_stays begun k g.hart e x kept.long low (begun_short w begun k kept) refl entry.mark entry.number_is kept.handed;
-    gone = gone_beside k.events (event_of g) k.retired kept.gone;
+    gone = gone_beside k.events (event_of g) k.retired refl kept.gone;
   }

@@ -86,7 +86,7 @@ none_fewer front (e ∷ back) =
     omega (arith, first, more)
 
 -- a grant's number is at most the number of grants that the state has
-number_low : (m : Machine) (journal : List Event) → Lawful m journal → (i number hart owner slot : ℕ) (choice : Choice) (value : ℕ)
+pub number_low : (m : Machine) (journal : List Event) → Lawful m journal → (i number hart owner slot : ℕ) (choice : Choice) (value : ℕ)
     → slice_get journal i ≡ Some (events.Grant number hart owner slot choice value) → number ≤ length (after journal).grants
 unfolding Lawful
 number_low m journal lawful i number hart owner slot choice value at =
@@ -100,7 +100,8 @@ number_low m journal lawful i number hart owner slot choice value at =
     subst (λ (es : List Event). length (after (take (suc i) journal)).grants ≤ length (after es).grants) whole (none_fewer (take (suc i) journal) (drop (suc i) journal)) in
     omega (arith, is, longer, few)
 
-number_of : (number hart owner slot : ℕ) (choice : Choice) (value : ℕ) → number_by (Some (events.Grant number hart owner slot choice value)) ≡ number
+-- the number of a grant's event
+pub number_of : (number hart owner slot : ℕ) (choice : Choice) (value : ℕ) → number_by (Some (events.Grant number hart owner slot choice value)) ≡ number
 unfolding number_by
 number_of number hart owner slot choice value = refl
 

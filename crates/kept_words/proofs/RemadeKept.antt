@@ -19,6 +19,8 @@ use Rattle.word_rule.specs.declared.view.Kept.{Kept}
 use Rattle.word_rule.specs.declared.view.Row.{Row}
 use Rattle.word_rule.specs.declared.view.Settled.{Settled}
 use Rattle.word_rule.specs.Allowed.{IsLost, IsOf, IsSlot, Stands}
+use Rattle.word_rule.specs.Fetches.{RoleWent}
+use Rattle.word_rule.specs.KeeperSteps.{AreDecided}
 use Rattle.word_rule.specs.Layout.{address_of, harts_at_most, place_of}
 use Rattle.word_rule.specs.Slots.{IsGrant}
 use Rattle.word_rule.specs.Views.{IsLong, kept_at, row_of}
@@ -36,7 +38,7 @@ use Rattle.history_state.specs.Lemmas.Calling.{startup_is_past}
 use Rattle.history_state.specs.Lemmas.History.{after_push, legal_push}
 use Rattle.history_state.specs.Lemmas.Good.{Good, core}
 use Rattle.history_state.specs.Lemmas.Lazy.{PageLaws}
-use Rattle.history_state.specs.Lemmas.Lists.{found_in, from_filter, has_in, in_has, none_in}
+use Rattle.history_state.specs.Lemmas.Lists.{found_in, from_filter, has_in, in_filter, in_has, none_in}
 use Rattle.history_state.specs.Lemmas.Map.{Mapped, image_there, one_cover, range_in}
 use Rattle.history_calls.specs.Laws.{hart_of}
 use Rattle.history_memory.specs.Holds.{IsSlotAt}
@@ -46,18 +48,20 @@ use Rattle.history_memory.specs.Lemmas.Images.{ImagesBack}
 use Rattle.hart_trails.specs.Entries.{entry_behind}
 use Rattle.hart_trails.specs.Trails.{is_granting}
 use Rattle.word_holds.specs.Shared.{IsOfState}
-use Rattle.kept_words.specs.Gone.{HaveGone}
+use Rattle.kept_words.specs.Gone.{AllGo, HaveGone}
 use Rattle.kept_words.specs.Handed.{IsIssued}
 use Rattle.kept_words.specs.Keeping.{IsRemadeView, remakes_memory}
-use Rattle.kept_words.specs.Kept.{AreKept, AreRows, LostHaveSeen}
+use Rattle.kept_words.specs.Kept.{AreKept, AreRows, AreSettled, LostHaveSeen}
 use Rattle.kept_words.specs.Remade.{IsRemade}
 use Rattle.kept_words.specs.Staying.{SameGrants, number_in}
 use Rattle.kept_words.proofs.Handed.{handed_stays, issued_stays}
 use Rattle.kept_words.proofs.Keeping.{begun_short, counted_number, fates_on, handed_issued, handed_long, handed_pending, handed_settled, later_event, is_settling, later_number, own_push, settles_none, some_in}
+use Rattle.kept_words.proofs.Over.{lost_settled}
 use Rattle.kept_words.proofs.Remade.{InOne, in_one}
 use Rattle.kept_words.proofs.Seen.{seen_on, seen_word}
-use Rattle.kept_words.proofs.Settling.{place_back, slot_word}
+use Rattle.kept_words.proofs.Settling.{StateLaws, place_back, slot_word}
 use Rattle.kept_words.proofs.Staying.{stands_back, states_stay}
+use Rattle.kept_words.proofs.Values.{settled_push}
 
 -- ---- slots with a grant whose fate isn't known
 
@@ -173,6 +177,19 @@ module _ (pages : PageLaws) (w : Setting) (past : List Event) (s : State) (now :
       off : (a : ℕ) (r : Range) → (covers a r ≡ true → ⊥) → covers a r ≡ false
       off a r none = ⊎_elim (λ (on : covers a r ≡ true). absurd (none on)) (λ (out : covers a r ≡ false). out) (cases_Bool (covers a r))
 
+-- ---- an unmapping
+
+-- what lost grants of the objects that go saw was their slots' value
+pub unmapping_settles : (w : Setting) (past : List Event) (s : State) (laws : StateLaws s) (k : KeeperView) (number : ℕ → Grant → ℕ) (hart : ℕ) (set : List ℕ) → IsOfState s k number → LostHaveSeen s k
+    → AllowedIn w past s (events.Unmapped hart set) → ((r : Range) → Contains (taken s (events.Unmapped hart set)) r → AreDecided k) → AreSettled s set
+unmapping_settles w past s laws k number hart set is seen may decided g saw there lost mapped goes =
+    let home = laws.images.mapped mapped.namespace mapped.object (record { there = mapped.there; inside = mapped.inside }) in
+    let range = laws.mapped.range home.image home.there in
+    let inside : has set home.image.serial ≡ true = in_has set home.image.serial (subst (Contains set) (sym (home.serial ∙ mapped.is)) goes) in
+    lost_settled s laws k number is
+    (decided range.range (in_filter (goes_with set) s.ranges range.range range.there (ap (λ (p : Purpose). purpose_goes set p) range.purpose ∙ inside)))
+    seen g saw (λ y granted open_yet. (may.free y g.owner granted open_yet goes).0) there lost mapped
+
 -- ---- what an event that remakes memory leaves
 
 record Remaking (s : State) (e : Event) : Type 0 where
@@ -203,7 +220,8 @@ remaking s (events.Ended hart reason) is = absurd (false≢true is)
 module _ (w : Setting) (begun : List Event) (k l : KeeperView) (kept : AreKept w begun k) (h : ℕ) (own_low : h < w.machine.harts) (e : Event) (own : hart_of e ≡ Some h)
     (remakes : remakes_memory e ≡ true) (may : Allowed w k.events e) (view : IsRemadeView (after k.events) e k l) (changes : ChangesMemory (after k.events) e)
     (stays : (m : ℕ) (g : Grant) → m < harts_at_most → (row_of k m).pending ≡ Some g → StandsApart (after k.events) e g.entry.slot)
-    (of_state : IsOfState (step (after k.events) e) l (number_in k.events)) (seen : LostHaveSeen (step (after k.events) e) l) (entry : Entry) (entry_is : entry ≡ entry_behind k.events e) where
+    (of_state : IsOfState (step (after k.events) e) l (number_in k.events)) (seen : LostHaveSeen (step (after k.events) e) l)
+    (goes : (hart : ℕ) (set : List ℕ) → e ≡ events.Unmapped hart set → AreSettled (after k.events) set) (entry : Entry) (entry_is : entry ≡ entry_behind k.events e) where
   low : h < harts_at_most
   low = let few : w.machine.harts ≤ harts_at_most = kept.few in omega (arith, few, own_low)
 
@@ -302,6 +320,12 @@ module _ (w : Setting) (begun : List Event) (k l : KeeperView) (kept : AreKept w
   of_mid : IsOfState (step (after k.events) e) mid (number_in k.events)
   of_mid = subst (λ (v : KeeperView). IsOfState (step (after k.events) e) v (number_in k.events)) view.only of_state
 
+  -- each role that the event takes away went
+  all_went : AllGo (role_at (after k.events)) (taken (after k.events) e) view.goes.more
+  all_went a covered some =
+      let role : (kept_at k (place_of a)).role ≡ role_at (after k.events) a = kept.words.role a covered.word in
+      subst (RoleWent view.goes.more (place_of a)) role (view.goes.all a covered (λ none. some (sym role ∙ none)))
+
   kept_mid : AreKept w begun (handed_over h entry (counted e mid))
   kept_mid = record {
     few = kept.few;
@@ -321,6 +345,7 @@ module _ (w : Setting) (begun : List Event) (k l : KeeperView) (kept : AreKept w
     seen = subst (λ (t : State). LostHaveSeen t (handed_over h entry (counted e mid))) (sym (after_push k.events e))
         (seen_on (step (after k.events) e) (step (after k.events) e) mid (handed_over h entry (counted e mid)) refl refl (λ d. refl) same.settled
         (subst (LostHaveSeen (step (after k.events) e)) view.only seen));
+    settled = settled_push k.events e goes kept.settled;
     issued = λ m x few there. ⊎_elim
         (λ (old : Contains (row_of k m).issued x). issued_stays w k.events (e ∷ []) m x (kept.issued m x few old))
         (λ (new : (m ≡ h) × (entry ≡ x)).
@@ -328,7 +353,7 @@ module _ (w : Setting) (begun : List Event) (k l : KeeperView) (kept : AreKept w
         (IsIssued.of_event k.events [] e refl own is.granting (sym new.1 ∙ entry_is)))
         (handed_issued (counted e mid) h entry (view.long.0, kept.long.1) low m x there);
     handed = handed_stays begun mid h e entry (view.long.0, kept.long.1) low (begun_short w begun k kept) own (ap (λ (x : Entry). x.mark) entry_is) (ap (λ (x : Entry). x.number) entry_is) kept.handed;
-    gone = subst (HaveGone (k.events ++ e ∷ [])) (sym view.goes.are) (HaveGone.by_event k.events e k.retired view.goes.more kept.gone view.goes.in_order);
+    gone = subst (HaveGone (k.events ++ e ∷ [])) (sym view.goes.are) (HaveGone.by_event k.events e k.retired view.goes.more kept.gone (record { in_order = view.goes.in_order; all = all_went }));
   }
 
   pub remade_kept : AreKept w begun (handed_over h entry (counted e l))

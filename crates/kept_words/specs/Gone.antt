@@ -1,16 +1,18 @@
--- What unmappings take away: words of their ranges, those of slots first, at the generation that each of them makes. For the loops that take them, and for
--- whoever reads what a run promises.
-use Rattle.std.specs.Prelude.{◌≡◌, ◌≢◌, ℕ, true, List, [], ◌∷◌, ◌++◌, Contains}
+-- What unmappings take away: each word of their ranges, those of slots first, at the generation and the number of events that each of them comes at. For
+-- the loops that take them, and for whoever reads what a run promises.
+use Rattle.std.specs.Prelude.{◌≡◌, ◌≢◌, ℕ, true, List, [], ◌∷◌, ◌++◌, length, Contains}
 use Rattle.ld_base.specs.declared.linking.Role.{Role}
-use Rattle.ld_base.specs.declared.linking.Role.TheVariants.{Slot}
+use Rattle.ld_base.specs.declared.linking.Role.TheVariants.{None as NoRole, Slot}
 use Rattle.history_event.specs.declared.event.Event.{Event}
 use Rattle.history_event.specs.declared.event.Range.{Range}
 use Rattle.word_rule.specs.declared.view.KeeperView.{KeeperView}
 use Rattle.word_rule.specs.declared.view.Retired.{Retired}
+use Rattle.word_rule.specs.Fetches.{RoleWent}
 use Rattle.word_rule.specs.Layout.{place_of}
+use Rattle.word_rule.specs.Views.{kept_at}
 use Rattle.history_state.specs.After.{after}
 use Rattle.history_state.specs.Changes.{taken}
-use Rattle.history_state.specs.Memory.{covers}
+use Rattle.history_state.specs.Memory.{covers, role_at}
 use Rattle.history_state.specs.Step.{step}
 use Rattle.history_memory.specs.Memory.{IsDoubleword}
 
@@ -35,26 +37,36 @@ IsOfSlot role = role ≡ Slot
 abbrev pub IsOfOther : Role → Type 0
 IsOfOther role = role ≢ Slot
 
--- each of these roles is such a one, and went from a doubleword of the ranges, at this generation
-abbrev pub AreGone : (Role → Type 0) → List Range → ℕ → List Retired → Type 0
-AreGone which ranges generation gone = (x : Retired) → Contains gone x → which x.role × IsInside ranges x.at × (x.generation ≡ generation)
+-- each of these roles is such a one, and went from a doubleword of the ranges, at this generation and behind so many events
+abbrev pub AreGone : (Role → Type 0) → List Range → ℕ → ℕ → List Retired → Type 0
+AreGone which ranges generation number gone =
+    (x : Retired) → Contains gone x → which x.role × IsInside ranges x.at × (x.generation ≡ generation) × (x.number ≡ number)
 
 -- first went those of slots, and then the others
-pub record GoInOrder (ranges : List Range) (generation : ℕ) (gone : List Retired) : Type 0 where
+pub record GoInOrder (ranges : List Range) (generation number : ℕ) (gone : List Retired) : Type 0 where
   pub slots : List Retired
   pub others : List Retired
   pub are : gone ≡ slots ++ others
-  pub first : AreGone IsOfSlot ranges generation slots
-  pub next : AreGone IsOfOther ranges generation others
+  pub first : AreGone IsOfSlot ranges generation number slots
+  pub next : AreGone IsOfOther ranges generation number others
+
+-- each role that a doubleword of the ranges had is among them
+abbrev pub AllGo : (ℕ → Role) → List Range → List Retired → Type 0
+AllGo role ranges gone = (a : ℕ) → IsCovered ranges a → role a ≢ NoRole → RoleWent gone (place_of a) (role a)
 
 -- so they did between two views
 pub record Goes (ranges : List Range) (generation : ℕ) (k l : KeeperView) : Type 0 where
   pub more : List Retired
   pub are : l.retired ≡ k.retired ++ more
-  pub in_order : GoInOrder ranges generation more
+  pub in_order : GoInOrder ranges generation (length k.events) more
+  pub all : AllGo (λ a. (kept_at k (place_of a)).role) ranges more
 
--- all that went by these events, one after another: what each takes away, at the generation behind it
+-- what went by an event behind these: the roles of the words that it takes away, and all of them, at the generation behind it
+pub record WentBy (past : List Event) (e : Event) (more : List Retired) : Type 0 where
+  pub in_order : GoInOrder (taken (after past) e) (step (after past) e).generation (length past) more
+  pub all : AllGo (role_at (after past)) (taken (after past) e) more
+
+-- all that went by these events, one after another
 pub data HaveGone : List Event → List Retired → Type 0 where
   nothing : HaveGone [] []
-  by_event : (past : List Event) (e : Event) (gone more : List Retired) → HaveGone past gone
-      → GoInOrder (taken (after past) e) (step (after past) e).generation more → HaveGone (past ++ e ∷ []) (gone ++ more)
+  by_event : (past : List Event) (e : Event) (gone more : List Retired) → HaveGone past gone → WentBy past e more → HaveGone (past ++ e ∷ []) (gone ++ more)

@@ -1,12 +1,13 @@
 -- What leaves the keeper's record as it has to be. For the methods of the type behind the lock, one call after another.
-use Rattle.std.specs.Prelude.{◌≡◌, ◌⊎◌, ℕ, ◌<◌, Bool, true, false, not, List, length, Some}
+use Rattle.std.specs.Prelude.{◌≡◌, ◌⊎◌, ℕ, ◌<◌, Bool, true, false, not, List, length, Some, Contains}
 use Rattle.history_event.specs.declared.event.Event.{Event}
 use Rattle.history_event.specs.declared.event.Event.TheVariants as events
 use Rattle.history_event.specs.declared.event.Event.TheVariants.{Bound, Lost as LostEvent}
+use Rattle.history_event.specs.declared.event.Range.{Range}
 use Rattle.word_rule.specs.declared.entry.Entry.{Entry}
 use Rattle.word_rule.specs.declared.entry.Grant.{Grant}
 use Rattle.word_rule.specs.declared.view.KeeperView.{KeeperView}
-use Rattle.word_rule.specs.KeeperSteps.{TellsAsk, awaited_if}
+use Rattle.word_rule.specs.KeeperSteps.{AreDecided, TellsAsk, awaited_if}
 use Rattle.word_rule.specs.Allowed.{IsOf}
 use Rattle.word_rule.specs.Layout.{harts_at_most, place_of}
 use Rattle.word_rule.specs.Views.{IsLong, kept_at, row_of}
@@ -74,11 +75,13 @@ remakes_memory e = elim e [
   | _ ↦ false
 ]
 
--- the view once memory is remade by the event: but for that, only the generation changed, what was shown of locked words, and which roles went
+-- the view once memory is remade by the event: but for that, only the generation changed, what was shown of locked words, and which roles went. Before
+-- words went, what came of each slot's grants was decided as far as their fates are known
 pub record IsRemadeView (s : State) (e : Event) (k l : KeeperView) : Type 0 where
   pub remade : IsRemade s e (length k.events) k l
   pub long : IsLong l
   pub goes : Goes (taken s e) (step s e).generation k l
+  pub decided : (r : Range) → Contains (taken s e) r → AreDecided k
   pub only : l ≡ record k { words = l.words; shown = l.shown; retired = l.retired; generation = (step s e).generation }
 
 -- a hart's event that may come remade memory; it is counted, and the hart gets its entry

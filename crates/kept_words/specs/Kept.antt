@@ -1,7 +1,8 @@
 -- What the keeper keeps whenever its lock is free, of its own view and the journal. For the type behind the lock.
-use Rattle.std.specs.Prelude.{◌≡◌, ◌≢◌, ℕ, ◌≤◌, ◌<◌, false, List, length, Some, Contains}
+use Rattle.std.specs.Prelude.{◌≡◌, ◌≢◌, ℕ, ◌≤◌, ◌<◌, false, List, length, take, Some, Contains}
+use Rattle.std.specs.List.{slice_get}
 use Rattle.history_event.specs.declared.event.Event.{Event}
-use Rattle.history_event.specs.declared.event.Event.TheVariants.{Bound, Lost}
+use Rattle.history_event.specs.declared.event.Event.TheVariants.{Bound, Lost, Unmapped}
 use Rattle.history_event.specs.declared.state.Granting.{Granting}
 use Rattle.history_event.specs.declared.state.Standing.TheVariants.{Lost as LostStanding}
 use Rattle.word_rule.specs.declared.entry.Grant.{Grant}
@@ -14,8 +15,8 @@ use Rattle.word_rule.specs.Layout.{harts_at_most, place_of}
 use Rattle.word_rule.specs.Slots.{IsGrant}
 use Rattle.word_rule.specs.Views.{BeginsWith, IsLong, kept_at, row_of}
 use Rattle.history_state.specs.After.{after}
-use Rattle.history_state.specs.Objects.{is_startup}
-use Rattle.history_state.specs.Legal.{Legal}
+use Rattle.history_state.specs.Objects.{IsMapped, is_startup}
+use Rattle.history_state.specs.Legal.{Legal, Settled}
 use Rattle.history_state.specs.Setting.{Setting}
 use Rattle.history_state.specs.State.{Linked, State}
 use Rattle.history_memory.specs.Holds.{IsSlotAt}
@@ -77,6 +78,14 @@ abbrev pub LostHaveSeen : State → KeeperView → Type 0
 LostHaveSeen s k = (x : Granting) (saw : ℕ) (i : Linked) → Contains s.grants x → x.standing ≡ LostStanding saw → Contains s.images i → i.serial ≡ x.owner
     → HasSeen s k x.owner x.slot saw
 
+-- what each lost grant of a mapped one of these objects saw is the value of its slot
+abbrev pub AreSettled : State → List ℕ → Type 0
+AreSettled s set = (g : Granting) (saw : ℕ) → Contains s.grants g → g.standing ≡ LostStanding saw → IsMapped s g.owner → Contains set g.owner → Settled s g saw
+
+-- so it was before each unmapping, of the objects that went: all that lost at one of their slots saw one word
+abbrev pub WereSettled : List Event → Type 0
+WereSettled journal = (n hart : ℕ) (set : List ℕ) → slice_get journal n ≡ Some (Unmapped hart set) → AreSettled (after (take n journal)) set
+
 -- `begun` is what the journal had when the harts' seats were made
 pub record AreKept (w : Setting) (begun : List Event) (k : KeeperView) : Type 0 where
   pub few : w.machine.harts ≤ harts_at_most
@@ -94,6 +103,7 @@ pub record AreKept (w : Setting) (begun : List Event) (k : KeeperView) : Type 0 
   pub granted : HaveEvents k.events k
   pub rows : AreRows k
   pub seen : LostHaveSeen (after k.events) k
+  pub settled : WereSettled k.events
   -- the roles that went are those that the journal took away, in order
   pub gone : HaveGone k.events k.retired
   -- each entry that a hart was handed is true of the journal, and they are its events since the seats were made

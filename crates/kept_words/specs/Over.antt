@@ -8,10 +8,9 @@ use Rattle.word_rule.specs.declared.entry.Grant.{Grant}
 use Rattle.word_rule.specs.declared.view.Fate.{Fate}
 use Rattle.word_rule.specs.declared.view.HartView.{HartView}
 use Rattle.word_rule.specs.declared.view.KeeperView.{KeeperView}
-use Rattle.word_rule.specs.Allowed.{IsDecided, IsSlot}
-use Rattle.word_rule.specs.KeeperSteps.{HasTakenAll}
+use Rattle.word_rule.specs.KeeperSteps.{AreDecided, HasTakenAll}
 use Rattle.word_rule.specs.Layout.{harts_at_most}
-use Rattle.word_rule.specs.Views.{entries_of, exchanges_of, kept_at, row_of}
+use Rattle.word_rule.specs.Views.{entries_of, exchanges_of, row_of}
 use Rattle.history_state.specs.Accepted.{AcceptsOnly}
 use Rattle.history_state.specs.After.{after}
 use Rattle.history_state.specs.Legal.{Whole}
@@ -22,10 +21,11 @@ use Rattle.kept_words.specs.Handed.{IsIssued, event_numbers, own_numbers}
 use Rattle.kept_words.specs.Kept.{AreKept, IsFateEvent, ShowsLoss}
 use Rattle.kept_words.specs.Staying.{IsGrantEvent, number_in}
 
--- what became of each grant is known, and so is what each slot holds
+-- what became of each grant is known; and of each slot that is there another grant won where one was lost that had the lazy word at first, one
+-- alone won, and it has the value that was seen in the slot. Of a slot that no grant lost, what it holds isn't said
 pub record IsOver (k : KeeperView) : Type 0 where
   pub settled : (m : ℕ) → m < harts_at_most → (row_of k m).pending ≡ None
-  pub decided : (d : ℕ) → IsSlot (kept_at k) d → IsDecided (kept_at k) (row_of k) d
+  pub decided : AreDecided k
 
 -- where every hart's end was an exit, what was initialised is finalised
 abbrev pub IsFinished : Setting → List Event → Type 0

@@ -90,7 +90,8 @@ pub fn grants_are_posted()
 }
 
 /// The record stays so where a hart's event remade memory: it is counted, and the hart gets its entry. The
-/// slot of a grant whose fate isn't known isn't among what comes and goes.
+/// slot of a grant whose fate isn't known isn't among what comes and goes. Of a slot that goes each lost
+/// grant saw the one value.
 pub fn remade_is_kept()
     ensures pending { PendingStay }
     ensures kept { RemadeKept }
@@ -100,6 +101,9 @@ pub fn remade_is_kept()
     scope_rule::reads_candidates();
     seg_image::pages_hold_segments();
     history_state::memory_changes();
+    history_state::slots_begin();
+    history_state::images_are_mapped();
+    history_state::none_is_lazy();
     remade_stays();
 }
 

@@ -1,17 +1,12 @@
 -- A grant is posted to its hart, which reads it.
-use Rattle.std.proofs.Common.{◌≡◌, ◌≢◌, inl, ℕ, suc, ◌+◌, ◌-◌, ◌<◌, ◌≤◌, ◌==◌, true, false, if◌then◌else◌, Bool, List, [], ◌∷◌, ◌++◌, length, length-append, take, drop, Some, refl, sym, ap, subst, ◌∙◌, append-nil, arith}
+use Rattle.std.proofs.Common.{◌≡◌, ◌≢◌, inl, ℕ, ◌+◌, ◌-◌, ◌<◌, ◌≤◌, ◌==◌, true, false, if◌then◌else◌, Bool, List, [], ◌∷◌, ◌++◌, length, length-append, take, Some, refl, sym, ap, subst, ◌∙◌, append-nil, arith}
 use mathlib.Core.Logic.{dite}
 use native.Mathlib.Decide.{ℕ_discrete}
-use Rattle.std.specs.List.{Contains, slice_get}
+use Rattle.std.specs.List.{Contains}
 use Rattle.std.proofs.lemmas.Bool.{eqb-true, eq-eqb}
-use Rattle.std.proofs.lemmas.List.{length-map, take-append-drop}
 use Rattle.std.proofs.lemmas.List.Elements.{Contains-append_left, Contains-append_right}
-use Rattle.ld_base.specs.declared.linking.Choice.{Choice}
-use Rattle.history_event.specs.declared.event.CloseAnswer.TheVariants as closes
 use Rattle.history_event.specs.declared.event.Event.{Event}
 use Rattle.history_event.specs.declared.event.Event.TheVariants as events
-use Rattle.history_event.specs.declared.event.OpenAnswer.TheVariants as opens
-use Rattle.history_event.specs.declared.event.SymAnswer.TheVariants as syms
 use Rattle.history_event.specs.declared.handed.Offer.{Offer}
 use Rattle.history_event.specs.declared.state.Granting.{Granting}
 use Rattle.word_rule.specs.declared.entry.Entry.{Entry}
@@ -28,12 +23,11 @@ use Rattle.slot_bind.specs.Grants.{MayPost, grant_of, posted, row_posted}
 use Rattle.history_state.specs.Accepted.{AcceptsOnly}
 use Rattle.history_state.specs.After.{after}
 use Rattle.history_state.specs.Legal.{Lawful}
-use Rattle.history_state.specs.Lemmas.History.{after_push, after_take, legal_is_lawful, one_behind}
+use Rattle.history_state.specs.Lemmas.History.{after_push, legal_is_lawful}
 use Rattle.history_state.specs.Lemmas.Lists.{here, later, none_in}
 use Rattle.history_state.specs.Lemmas.Tidy.{in_at}
 use Rattle.history_state.specs.Setting.{Machine, Setting}
 use Rattle.history_state.specs.State.{State}
-use Rattle.history_state.specs.Step.{die, initialise, loaded, lower, step, unmap}
 use Rattle.hart_moves.specs.Harts.{Offered}
 use Rattle.hart_moves.specs.Trails.{event_from, is_grant}
 use Rattle.link_state.specs.Granting.{HasOpenGrant}
@@ -45,54 +39,11 @@ use Rattle.hart_linker.specs.Between.{HasGrant}
 use Rattle.link_keeper.specs.Handing.{HasGrantEvent, IsPassed, MayHandOver}
 use Rattle.link_keeper.specs.Keeping.{KeepsView}
 use Rattle.link_keeper.specs.Passing.{InStep, has_read}
+use Rattle.kept_words.proofs.Posting.{at_end, number_low, number_of}
 use Rattle.link_keeper.proofs.Kept.{inside, later_number}
 use Rattle.link_keeper.proofs.Settled.{first_goes_on}
 
 -- ---- the number of a grant is new
-
-no_fewer : (s : State) (e : Event) → length s.grants ≤ length (step s e).grants
-unfolding loaded die lower unmap initialise
-no_fewer s (events.Open hart ask (opens.Done id root added ranges)) = omega arith
-no_fewer s (events.Open hart ask opens.Absent) = omega arith
-no_fewer s (events.Open hart ask (opens.Refused fault)) = omega arith
-no_fewer s (events.Close hart handle (closes.Done set)) = omega arith
-no_fewer s (events.Close hart handle (closes.Refused fault)) = omega arith
-no_fewer s (events.Unmapped hart set) = omega arith
-no_fewer s (events.Grant number hart owner slot choice value) = omega (arith, length-append s.grants (granting_of (record { number = number; hart = hart; owner = owner; slot = slot; choice = choice; value = value }) ∷ []))
-no_fewer s (events.Bound number) = omega (arith, length-map {A = Granting} {B = Granting})
-no_fewer s (events.Lost number saw) = omega (arith, length-map {A = Granting} {B = Granting})
-no_fewer s (events.Unresolved hart owner slot choice) = omega arith
-no_fewer s (events.Sym hart ask (syms.Found serial index value)) = omega arith
-no_fewer s (events.Sym hart ask (syms.Refused fault)) = omega arith
-no_fewer s (events.Tls hart owner address) = omega arith
-no_fewer s (events.Init hart object) = omega arith
-no_fewer s (events.Fini hart object) = omega arith
-no_fewer s (events.Wrote hart bytes) = omega arith
-no_fewer s (events.Told hart fault) = omega arith
-no_fewer s (events.Ended hart reason) = omega arith
-
-none_fewer : (front back : List Event) → length (after front).grants ≤ length (after (front ++ back)).grants
-none_fewer front [] = subst (λ (es : List Event). length (after front).grants ≤ length (after es).grants) (sym (append-nil front)) (omega arith)
-none_fewer front (e ∷ back) =
-    let first : length (after front).grants ≤ length (after (front ++ e ∷ [])).grants =
-    subst (λ (s : State). length (after front).grants ≤ length s.grants) (sym (after_push front e)) (no_fewer (after front) e) in
-    let more : length (after (front ++ e ∷ [])).grants ≤ length (after (front ++ e ∷ back)).grants =
-    subst (λ (es : List Event). length (after (front ++ e ∷ [])).grants ≤ length (after es).grants) (one_behind front e back) (none_fewer (front ++ e ∷ []) back) in
-    omega (arith, first, more)
-
-number_low : (m : Machine) (journal : List Event) → Lawful m journal → (i number hart owner slot : ℕ) (choice : Choice) (value : ℕ)
-    → slice_get journal i ≡ Some (events.Grant number hart owner slot choice value) → number ≤ length (after journal).grants
-unfolding Lawful
-number_low m journal lawful i number hart owner slot choice value at =
-    let may = (lawful i (events.Grant number hart owner slot choice value) at).2 in
-    let is : number ≡ length (after (take i journal)).grants + 1 = may.numbered in
-    let longer : length (after (take (suc i) journal)).grants ≡ length (after (take i journal)).grants + 1 =
-    ap (λ (s : State). length s.grants) (after_take journal i (events.Grant number hart owner slot choice value) at)
-    ∙ length-append (after (take i journal)).grants (granting_of (record { number = number; hart = hart; owner = owner; slot = slot; choice = choice; value = value }) ∷ []) in
-    let whole : take (suc i) journal ++ drop (suc i) journal ≡ journal = take-append-drop (suc i) journal in
-    let few : length (after (take (suc i) journal)).grants ≤ length (after journal).grants =
-    subst (λ (es : List Event). length (after (take (suc i) journal)).grants ≤ length (after es).grants) whole (none_fewer (take (suc i) journal) (drop (suc i) journal)) in
-    omega (arith, is, longer, few)
 
 other_number : (number n : ℕ) → n < number → (n == number) ≡ false
 other_number number n low = by (n == number) refl
@@ -130,14 +81,6 @@ last_from first (x ∷ past) e number others is =
     ap (λ (t : Bool). if t then Some first else event_from (first + 1) (past ++ e ∷ []) number) (others x (here x past))
     ∙ last_from (first + 1) past e number (λ y there. others y (later x past y there)) is
     ∙ ap (λ (n : ℕ). Some n) (let same : first + 1 + length past ≡ first + length (x ∷ past) = omega arith in same)
-
-seam_get : (past : List Event) (e : Event) → slice_get (past ++ e ∷ []) (length past) ≡ Some e
-seam_get [] e = refl
-seam_get (x ∷ past) e = seam_get past e
-
-number_is : (number hart owner slot : ℕ) (choice : Choice) (value : ℕ) → number_by (Some (events.Grant number hart owner slot choice value)) ≡ number
-unfolding number_by
-number_is number hart owner slot choice value = refl
 
 take_whole : {X : Type 0} (xs : List X) (n : ℕ) → n ≡ length xs → take n xs ≡ xs
 take_whole {X} xs n is = ap (λ (m : ℕ). take m xs) is ∙ by xs
@@ -191,8 +134,7 @@ module _ (may_post : NewMayPost) (posted_kept : PostedKept) (w : Setting) (begun
     generation_is = ap (λ (es : List Event). (after es).generation) events_are ∙ ap (λ (s : State). s.generation) (after_push k.events (event_of g)) ∙ sym hand.view.kept.generation
 
     numbered : (number_in (k.events ++ event_of g ∷ []) id grant) ≡ g.number
-    numbered = ap number_by (ap (slice_get (k.events ++ event_of g ∷ [])) (let same : length k.events + 1 - 1 ≡ length k.events = omega arith in same) ∙ seam_get k.events (event_of g))
-        ∙ number_is g.number g.hart g.owner g.slot g.choice g.value
+    numbered = ap number_by (at_end k.events (event_of g) (length k.events + 1 - 1) (omega arith)) ∙ number_of g.number g.hart g.owner g.slot g.choice g.value
 
     grants_are : (after (k.events ++ event_of g ∷ [])).grants ≡ (after k.events).grants ++ granting_of g ∷ []
     grants_are = ap (λ (s : State). s.grants) (after_push k.events (event_of g))

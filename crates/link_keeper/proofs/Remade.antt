@@ -146,7 +146,8 @@ unmapped_none : (ranges : List Range) (k l : KeeperView) → ranges ≡ [] → L
 unmapped_none ranges k l none leaves = record {
   gone = λ a covered. absurd (none_in covered.range (subst (λ (rs : List Range). Contains rs covered.range) none covered.there));
   kept = λ d outside. leaves.words d;
-  goes = goes_none ranges l.generation k l leaves.retired;
+  goes = goes_none ranges l.generation k l none leaves.retired;
+  decided = λ r there. absurd (none_in r (subst (λ (rs : List Range). Contains rs r) none there));
   only = leaves.only;
 }
 

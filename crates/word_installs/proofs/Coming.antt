@@ -422,12 +422,13 @@ module _ (s : State) (e : Event) (known : Knows s e) (k : KeeperView) (role : (a
     }
 
 -- but for its words, the view changed in its generation alone
-pub installed_view : (s : State) (e : Event) (k l : KeeperView) (installs : Installs) → IsRemade s e (length k.events) k l → IsInstalled installs k l → IsLong l
+pub installed_view : (s : State) (e : Event) (k l : KeeperView) (installs : Installs) → taken s e ≡ [] → IsRemade s e (length k.events) k l → IsInstalled installs k l → IsLong l
     → l.generation ≡ (step s e).generation → IsRemadeView s e k l
-installed_view s e k l installs remade installed long generation = record {
+installed_view s e k l installs none remade installed long generation = record {
   remade = remade;
   long = long;
-  goes = goes_none (taken s e) (step s e).generation k l (ap (λ (v : KeeperView). v.retired) installed.only);
+  goes = goes_none (taken s e) (step s e).generation k l none (ap (λ (v : KeeperView). v.retired) installed.only);
+  decided = λ r there. absurd (none_in r (subst (λ (rs : List Range). Contains rs r) none there));
   only = ap (λ (v : KeeperView). record v { generation = l.generation }) installed.only
       ∙ ap (λ sights. record k { words = l.words; shown = sights; generation = l.generation }) (sym (ap (λ (v : KeeperView). v.shown) installed.only))
       ∙ ap (λ gone. record k { words = l.words; shown = l.shown; retired = gone; generation = l.generation }) (sym (ap (λ (v : KeeperView). v.retired) installed.only))

@@ -182,5 +182,6 @@ unmapped_view s e k l none unmapped long generation = record {
   remade = unmapped_remade s e k l (length k.events) none unmapped;
   long = long;
   goes = subst (λ (g : ℕ). Goes (taken s e) g k l) generation unmapped.goes;
+  decided = unmapped.decided;
   only = unmapped.only ∙ ap (λ (g : ℕ). record k { words = l.words; shown = l.shown; retired = l.retired; generation = g }) generation;
 }

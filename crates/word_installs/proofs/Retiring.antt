@@ -5,7 +5,7 @@ use native.Mathlib.Decide.{ℕ_discrete, dec_le}
 use Rattle.std.specs.List.{Contains, slice_get}
 use Rattle.std.proofs.lemmas.Option.{slice_get_within}
 use Rattle.std.proofs.lemmas.Bool.{and_from, and_parts, le-leb, leb-true, lt-ltb, ltb-true}
-use Rattle.std.proofs.lemmas.List.Elements.{Contains-append_cases}
+use Rattle.std.proofs.lemmas.List.Elements.{Contains-append_cases, Contains-append_left, Contains-append_right}
 use Rattle.std.proofs.lemmas.List.{get_or-set_other, get_or_past, set_past}
 use Rattle.ld_base.specs.declared.fault.Shown.{Shown}
 use Rattle.ld_base.specs.declared.fault.Shown.TheVariants as shows
@@ -18,7 +18,8 @@ use Rattle.word_rule.specs.declared.view.KeeperView.{KeeperView}
 use Rattle.word_rule.specs.declared.view.Kept.{Kept}
 use Rattle.word_rule.specs.declared.view.Retired.{Retired}
 use Rattle.word_rule.specs.Allowed.{IsOf, IsSlot, NothingEnters, Stands}
-use Rattle.word_rule.specs.KeeperSteps.{retired}
+use Rattle.word_rule.specs.Fetches.{RoleWent}
+use Rattle.word_rule.specs.KeeperSteps.{AreDecided, retired}
 use Rattle.word_rule.specs.Layout.{place_of}
 use Rattle.word_rule.specs.Lemmas.Heeding.{kept_here}
 use Rattle.word_rule.specs.Views.{kept_at, row_of, unmapped}
@@ -28,31 +29,48 @@ use Rattle.history_state.specs.Memory.{covers}
 use Rattle.history_state.specs.Lemmas.Lists.{here, none_in, only_in}
 use Rattle.history_state.specs.Lemmas.Tidy.{in_at}
 use Rattle.kept_words.specs.Gone.{IsCovered, IsInside, IsOfOther, IsOfSlot}
-use Rattle.word_installs.specs.Unmapped.{HasNoRole, HasNoSlot, IsUnmapped, MayUnmap, Retires, SlotsGoFirst}
+use Rattle.word_installs.specs.Unmapped.{HasNoRole, HasNoSlot, IsUnmapped, LostRole, MayUnmap, Retires, SlotsGoFirst}
 use Rattle.word_installs.proofs.Places.{word_address}
 
 -- ---- what is retired
 
 pub retires_none : (which : Role → Type 0) (ranges : List Range) (k : KeeperView) → Retires which ranges k k
-retires_none which ranges k = record { each = λ d. inl refl; more = []; are = sym (append-nil k.retired); gone = λ x there. absurd (none_in x there); only = refl }
+retires_none which ranges k = record { more = []; are = sym (append-nil k.retired); each = λ d. inl refl; gone = λ x there. absurd (none_in x there); only = refl }
 
 pub generation_on : {which : Role → Type 0} (ranges : List Range) (k l : KeeperView) → Retires which ranges k l → l.generation ≡ k.generation
 generation_on ranges k l retires = ap (λ (v : KeeperView). v.generation) retires.only
 
+pub events_on : {which : Role → Type 0} (ranges : List Range) (k l : KeeperView) → Retires which ranges k l → l.events ≡ k.events
+events_on ranges k l retires = ap (λ (v : KeeperView). v.events) retires.only
+
+-- what is lost stays so over another view that has it so, or with more that went
+lost_then : (ranges : List Range) (one two : List Retired) (k l m : KeeperView) (d : ℕ) → (kept_at l d ≡ kept_at k d) ⊎ LostRole ranges one k l d
+    → (kept_at m d ≡ kept_at l d) ⊎ LostRole ranges two l m d → (kept_at m d ≡ kept_at k d) ⊎ LostRole ranges (one ++ two) k m d
+lost_then ranges one two k l m d (inl was) (inl same) = inl (same ∙ was)
+lost_then ranges one two k l m d (inr lost) (inl same) = inr (record {
+  inside = lost.inside;
+  none = ap (λ (x : Kept). x.role) same ∙ lost.none;
+  went = record { went = lost.went.went; there = Contains-append_left one two lost.went.went lost.went.there; at = lost.went.at; role_is = lost.went.role_is };
+})
+lost_then ranges one two k l m d (inl was) (inr lost) = inr (record {
+  inside = lost.inside;
+  none = lost.none;
+  went = record { went = lost.went.went; there = Contains-append_right one two lost.went.went lost.went.there; at = lost.went.at; role_is = lost.went.role_is ∙ ap (λ (x : Kept). x.role) was };
+})
+lost_then ranges one two k l m d (inr first) (inr again) = inr (record {
+  inside = again.inside;
+  none = again.none;
+  went = record { went = first.went.went; there = Contains-append_left one two first.went.went first.went.there; at = first.went.at; role_is = first.went.role_is };
+})
+
 pub retires_then : {which : Role → Type 0} (ranges : List Range) (k l m : KeeperView) → Retires which ranges k l → Retires which ranges l m → Retires which ranges k m
 retires_then ranges k l m one two = record {
-  each = λ d. ⊎_elim
-      (λ (same : kept_at m d ≡ kept_at l d). ⊎_elim
-      (λ (was : kept_at l d ≡ kept_at k d). inl (same ∙ was))
-      (λ (gone : IsInside ranges d × ((kept_at l d).role ≡ NoRole)). inr (gone.0, ap (λ (x : Kept). x.role) same ∙ gone.1))
-      (one.each d))
-      (λ (gone : IsInside ranges d × ((kept_at m d).role ≡ NoRole)). inr gone)
-      (two.each d);
+  each = λ d. lost_then ranges one.more two.more k l m d (one.each d) (two.each d);
   more = one.more ++ two.more;
   are = two.are ∙ ap (λ (all : List Retired). all ++ two.more) one.are ∙ append_assoc k.retired one.more two.more;
   gone = λ x there. ⊎_elim
       (λ (in_one : Contains one.more x). one.gone x in_one)
-      (λ (in_two : Contains two.more x). let y = two.gone x in_two in (y.0, y.1, y.2 ∙ generation_on ranges k l one))
+      (λ (in_two : Contains two.more x). let y = two.gone x in_two in (y.0, y.1, y.2 ∙ generation_on ranges k l one, y.3 ∙ ap length (events_on ranges k l one)))
       (Contains-append_cases one.more two.more x there);
   only = two.only ∙ ap (λ (v : KeeperView). record v { words = m.words; shown = m.shown; retired = m.retired }) one.only;
 }
@@ -61,13 +79,13 @@ retires_then ranges k l m one two = record {
 pub stays_gone : {which : Role → Type 0} (ranges : List Range) (k l : KeeperView) → Retires which ranges k l → (d : ℕ) → (kept_at k d).role ≡ NoRole → (kept_at l d).role ≡ NoRole
 stays_gone ranges k l retires d gone = ⊎_elim
     (λ (same : kept_at l d ≡ kept_at k d). ap (λ (x : Kept). x.role) same ∙ gone)
-    (λ (new : IsInside ranges d × ((kept_at l d).role ≡ NoRole)). new.1)
+    (λ (lost : LostRole ranges retires.more k l d). lost.none)
     (retires.each d)
 
 pub stays_no_slot : {which : Role → Type 0} (ranges : List Range) (k l : KeeperView) → Retires which ranges k l → (d : ℕ) → (kept_at k d).role ≢ Slot → (kept_at l d).role ≢ Slot
 stays_no_slot ranges k l retires d none slot = ⊎_elim
     (λ (same : kept_at l d ≡ kept_at k d). none (ap (λ (x : Kept). x.role) (sym same) ∙ slot))
-    (λ (new : IsInside ranges d × ((kept_at l d).role ≡ NoRole)). let both : NoRole ≡ Slot = sym new.1 ∙ slot in cc)
+    (λ (lost : LostRole ranges retires.more k l d). let both : NoRole ≡ Slot = sym lost.none ∙ slot in cc)
     (retires.each d)
 
 pub slotless_on : {which : Role → Type 0} (ranges : List Range) (k l : KeeperView) → Retires which ranges k l → HasNoSlot ranges k → HasNoSlot ranges l
@@ -94,7 +112,7 @@ may_on ranges k l retires may = record {
 }
   where
     same : (d : ℕ) → (IsInside ranges d → ⊥) → kept_at l d ≡ kept_at k d
-    same d outside = ⊎_elim (λ (x : kept_at l d ≡ kept_at k d). x) (λ x. absurd (outside x.0)) (retires.each d)
+    same d outside = ⊎_elim (λ (x : kept_at l d ≡ kept_at k d). x) (λ (lost : LostRole ranges retires.more k l d). absurd (outside lost.inside)) (retires.each d)
 
 -- ---- one doubleword
 
@@ -123,18 +141,22 @@ gone_now k l a is = ap (λ (v : KeeperView). (kept_at v (place_of a)).role) is �
 
 -- the role that goes
 abbrev role_of : ℕ → KeeperView → Retired
-role_of d k = record { at = d; role = (kept_at k d).role; generation = k.generation }
+role_of d k = record { at = d; role = (kept_at k d).role; generation = k.generation; number = length k.events }
 
 pub retires_one : (which : Role → Type 0) (ranges : List Range) (k l : KeeperView) (a : ℕ) → IsCovered ranges a → which (kept_at k (place_of a)).role → l ≡ retired (place_of a) k
     → Retires which ranges k l
 retires_one which ranges k l a covered such is = record {
   each = λ d. dite (ℕ_discrete d (place_of a))
-      (λ (same : d ≡ place_of a). inr ((a, covered, sym same), ap (λ (e : ℕ). (kept_at l e).role) same ∙ gone_now k l a is))
+      (λ (same : d ≡ place_of a). inr (record {
+        inside = (a, covered, sym same);
+        none = ap (λ (e : ℕ). (kept_at l e).role) same ∙ gone_now k l a is;
+        went = record { went = role_of (place_of a) k; there = here (role_of (place_of a) k) []; at = sym same; role_is = ap (λ (e : ℕ). (kept_at k e).role) (sym same) };
+      }))
       (λ (apart : d ≢ place_of a). inl (ap (λ (v : KeeperView). kept_at v d) is
       ∙ get_or-set_other k.words (place_of a) d (record (kept_at k (place_of a)) { role = NoRole }) unmapped apart));
   more = role_of (place_of a) k ∷ [];
   are = ap (λ (v : KeeperView). v.retired) is;
-  gone = λ x there. subst (λ (y : Retired). which y.role × IsInside ranges y.at × (y.generation ≡ k.generation)) (only_in (role_of (place_of a) k) x there) (such, (a, covered, refl), refl);
+  gone = λ x there. subst (λ (y : Retired). which y.role × IsInside ranges y.at × (y.generation ≡ k.generation) × (y.number ≡ length k.events)) (only_in (role_of (place_of a) k) x there) (such, (a, covered, refl), refl, refl);
   only = is ∙ ap (λ (v : KeeperView). record k { words = v.words; shown = v.shown; retired = v.retired }) (sym is);
 }
 
@@ -277,13 +299,13 @@ may_later ranges k l generation is may = subst (λ (v : KeeperView). MayUnmap v 
 
 -- of which kind the roles were is left out
 of_any : {which : Role → Type 0} (ranges : List Range) (k l : KeeperView) → Retires which ranges k l → Retires (λ _. Unit {0}) ranges k l
-of_any ranges k l retires = record { each = retires.each; more = retires.more; are = retires.are; gone = λ x there. (tt, (retires.gone x there).1, (retires.gone x there).2); only = retires.only }
+of_any ranges k l retires = record { each = retires.each; more = retires.more; are = retires.are; gone = λ x there. let y = retires.gone x there in (tt, y.1, y.2, y.3); only = retires.only }
 
-pub is_unmapped : (ranges : List Range) (k l m n : KeeperView) (generation : ℕ) → l ≡ record k { generation = generation } → Retires IsOfSlot ranges l m → Retires IsOfOther ranges m n
+pub is_unmapped : (ranges : List Range) (k l m n : KeeperView) (generation : ℕ) → l ≡ record k { generation = generation } → AreDecided k → Retires IsOfSlot ranges l m → Retires IsOfOther ranges m n
     → HasNoRole ranges n → IsUnmapped ranges k n
-is_unmapped ranges k l m n generation is one two gone = record {
+is_unmapped ranges k l m n generation is decided one two gone = record {
   gone = gone;
-  kept = λ d outside. ⊎_elim (λ (same : kept_at n d ≡ kept_at l d). same ∙ ap (λ (v : KeeperView). kept_at v d) is) (λ x. absurd (outside x.0)) (both.each d);
+  kept = λ d outside. ⊎_elim (λ (same : kept_at n d ≡ kept_at l d). same ∙ ap (λ (v : KeeperView). kept_at v d) is) (λ (lost : LostRole ranges both.more l n d). absurd (outside lost.inside)) (both.each d);
   goes = record {
     more = one.more ++ two.more;
     are = two.are ∙ ap (λ (all : List Retired). all ++ two.more) one.are ∙ append_assoc l.retired one.more two.more
@@ -292,14 +314,26 @@ is_unmapped ranges k l m n generation is one two gone = record {
       slots = one.more;
       others = two.more;
       are = refl;
-      first = λ x there. let y = one.gone x there in (y.0, y.1, y.2 ∙ sym (generation_on ranges l n both));
-      next = λ x there. let y = two.gone x there in (y.0, y.1, y.2 ∙ sym (generation_on ranges m n two));
+      first = λ x there. let y = one.gone x there in (y.0, y.1, y.2 ∙ sym (generation_on ranges l n both), y.3 ∙ count);
+      next = λ x there. let y = two.gone x there in (y.0, y.1, y.2 ∙ sym (generation_on ranges m n two), y.3 ∙ ap length (events_on ranges l m one) ∙ count);
     };
+    all = λ a covered some. ⊎_elim
+        (λ (same : kept_at n (place_of a) ≡ kept_at l (place_of a)). absurd (some (sym (ap (λ (x : Kept). x.role) same ∙ was a) ∙ gone a covered)))
+        (λ (lost : LostRole ranges both.more l n (place_of a)). subst (RoleWent both.more (place_of a)) (was a) lost.went)
+        (both.each (place_of a));
   };
+  decided = λ r there. decided;
   only = both.only ∙ ap (λ (v : KeeperView). record v { words = n.words; shown = n.shown; retired = n.retired }) is
       ∙ ap (λ (x : ℕ). record k { words = n.words; shown = n.shown; retired = n.retired; generation = x })
       (sym (ap (λ (v : KeeperView). v.generation) both.only ∙ ap (λ (v : KeeperView). v.generation) is));
 }
   where
+    -- setting the generation left the words and the events
+    was : (a : ℕ) → (kept_at l (place_of a)).role ≡ (kept_at k (place_of a)).role
+    was a = ap (λ (v : KeeperView). (kept_at v (place_of a)).role) is
+
+    count : length l.events ≡ length k.events
+    count = ap (λ (v : KeeperView). length v.events) is
+
     both : Retires (λ _. Unit {0}) ranges l n
     both = retires_then ranges l m n (of_any ranges l m one) (of_any ranges m n two)

@@ -45,10 +45,11 @@ use Rattle.word_holds.specs.Shared.{IsOfState}
 use Rattle.kept_words.specs.Gone.{HaveGone}
 use Rattle.kept_words.specs.Handed.{event_numbers, own_numbers}
 use Rattle.kept_words.specs.Keeping.{remakes_memory}
-use Rattle.kept_words.specs.Kept.{AreKept, IsFateEvent}
+use Rattle.kept_words.specs.Kept.{AreKept, AreSettled, IsFateEvent, WereSettled}
 use Rattle.kept_words.specs.Remade.{IsRemade}
 use Rattle.kept_words.specs.Staying.{leaves_memory, number_in}
-use Rattle.kept_words.proofs.Gone.{gone_behind}
+use Rattle.kept_words.proofs.Gone.{gone_behind, gone_beside}
+use Rattle.kept_words.proofs.Values.{settled_behind, settled_push}
 use Rattle.kept_words.proofs.Remade.{InOne, in_one}
 use Rattle.kept_words.proofs.Settling.{place_back, slot_word}
 use Rattle.word_installs.specs.Installed.{IsInstalled}
@@ -324,6 +325,10 @@ module _ (w : Setting) (begun : List Event) (installs : Installs) (start : IsSta
             absurd (page_no_slot (in_linker_page 512 d) (ap (λ (y : Kept). y.role) (sym (fresh.words d)) ∙ ap (λ (c : ℕ). (kept_at k c).role) (sym place)
             ∙ ap (λ (y : Kept). y.role) (sym stays) ∙ ap (λ (c : ℕ). (kept_at l c).role) place ∙ slot.1))
 
+    -- before startup there is no grant
+    none_lost : (set : List ℕ) → AreSettled (after []) set
+    none_lost set x saw there lost mapped goes = absurd (none_in x (subst (λ (s : State). Contains s.grants x) empty_is there))
+
     handed : (h : ℕ) → h < harts_at_most → event_numbers (row_of l h).issued ≡ own_numbers h (length begun + 1) (drop (length begun) l.events)
     handed h low =
         ap (λ (r : Row). event_numbers r.issued) (rows_are h)
@@ -357,7 +362,11 @@ module _ (w : Setting) (begun : List Event) (installs : Installs) (start : IsSta
         lost = λ m g low is of. absurd (none_settled m g LostFate is);
       };
       seen = λ x saw i there lost inside serial. absurd (none_in x (subst (λ (all : List Granting). Contains all x) (ap (λ (es : List Event). (after es).grants) events_is ∙ no_grants) there));
+      settled = subst WereSettled (sym (events_is ∙ start.are))
+          (settled_behind (start.first ∷ []) start.rest start.quiet (settled_push [] start.first (λ hart set is. none_lost set) (λ n hart set at. absurd (let no : None ≡ Some (events.Unmapped hart set) = at in cc))));
       issued = λ h e low there. absurd (none_in e (subst (λ (r : Row). Contains r.issued e) (rows_are h) there));
       handed = handed;
-      gone = subst (HaveGone l.events) (sym (ap (λ (v : KeeperView). v.retired) installed.only ∙ fresh.none_retired)) (gone_behind [] l.events [] HaveGone.nothing);
+      gone = subst (λ (es : List Event). HaveGone es l.retired) (sym (events_is ∙ start.are))
+          (subst (HaveGone (start.first ∷ start.rest)) (sym (ap (λ (v : KeeperView). v.retired) installed.only ∙ fresh.none_retired))
+          (gone_behind (start.first ∷ []) start.rest [] start.quiet (gone_beside [] start.first [] (none_taken start.first) HaveGone.nothing)));
     }

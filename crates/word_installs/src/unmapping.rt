@@ -2,7 +2,7 @@
 
 ghost use Rattle.std.specs.Prelude.{◌≡◌, ◌≢◌, ◌≤◌, [], ◌∷◌, Contains, IfErr, IfOk};
 ghost use Rattle.ld_base.specs.declared.linking.Role.TheVariants.{None as NoRole, Rw, Slot as SlotRole};
-ghost use Rattle.word_rule.specs.KeeperSteps.{retired};
+ghost use Rattle.word_rule.specs.KeeperSteps.{AreDecided, retired};
 ghost use Rattle.word_rule.specs.Layout.{place_of};
 ghost use Rattle.word_rule.specs.Views.{kept_at};
 ghost use Rattle.word_access.specs.WordKeeping.Keeping.{was_shown};
@@ -38,14 +38,15 @@ pub fn unmap<R: Wait, J: Naming>(
     retire_others(rt, memory, keeper, ranges);
 }
 
-/// Sets the generation, where it rose.
+/// Sets the generation, where it rose. Its load tells that what came of each slot's grants is decided.
 pub(crate) fn raise_generation<J: Naming>(
     memory: &Memory<J>,
     keeper: &mut KeeperSeat<J>,
     generation: u64,
 )
     requires { keeper.old.generation ≤ generation }
-    ensures { keeper.new ≡ record keeper.old { generation = generation } }
+    ensures raised { keeper.new ≡ record keeper.old { generation = generation } }
+    ensures decided { AreDecided keeper.old }
 {
     if latest_generation(memory, keeper) < generation {
         set_generation(memory, keeper, generation);

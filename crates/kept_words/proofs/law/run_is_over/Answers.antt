@@ -1,3 +1,7 @@
+use Rattle.std.proofs.Common.{◌≢◌}
+use Rattle.std.specs.List.{Contains}
+use Rattle.history_event.specs.declared.state.Granting.{Granting}
+use Rattle.history_event.specs.declared.state.Standing.TheVariants.{Open}
 use Rattle.history_state.specs.After.{after}
 use Rattle.history_state.specs.Lemmas.Brought.{LoadLaws}
 use Rattle.history_state.specs.Lemmas.History.{legal_is_lawful}
@@ -21,9 +25,11 @@ returns-clause-whole c w begun k accepts kept over finished =
       tidy = tidy_after w.machine k.events lawful;
       fits = λ owner slot. load_word w.machine k.events lawful owner slot;
     } in
+    let settled : (g : Granting) → Contains (after k.events).grants g → g.standing ≢ Open =
+    (λ g there open_yet. none_open (after k.events) laws k (number_in k.events) kept.words over.settled g (c.slots_stand.ensures.granted w.machine k.events g accepts lawful there open_yet) open_yet) in
     record {
-      settled = λ g there open_yet. none_open (after k.events) laws k (number_in k.events) kept.words over kept.seen g (c.slots_stand.ensures.granted w.machine k.events g accepts lawful there open_yet) open_yet;
-      lost = lost_settled (after k.events) laws k (number_in k.events) kept.words over kept.seen;
+      settled = settled;
+      lost = λ g saw. lost_settled (after k.events) laws k (number_in k.events) kept.words over.decided kept.seen g saw (λ y there open_yet. absurd (settled y there open_yet));
       finished = finished;
     }
 

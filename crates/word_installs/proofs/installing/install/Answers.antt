@@ -39,4 +39,4 @@ returns-clause-installed g c =
     c.put_slots.new.keeper c.raise_generation.new.keeper c.args.generation
     (subst (λ (is : List Image). Puts (OfSlots is c.args.installs.now.slots) c.put_images-2.new.keeper c.put_slots.new.keeper) c.as_slice-images.ensures
     (subst (λ (ss : List SlotWord). Puts (OfSlots c.as_slice-images.result.now ss) c.put_images-2.new.keeper c.put_slots.new.keeper) c.as_slice-2.ensures c.put_slots.ensures))
-    c.raise_generation.ensures
+    c.raise_generation.ensures.raised

@@ -22,7 +22,7 @@ returns c = record {
   remade = λ w past e k l number installs comes are none_taken installed.
       remade (after past) e (knows w past e k number comes) k comes.words.role installs are l none_taken installed;
   view = λ w past e k l number installs comes are none_taken installed long generation.
-      installed_view (after past) e k l installs
+      installed_view (after past) e k l installs none_taken
       (remade (after past) e (knows w past e k number comes) k comes.words.role installs are l none_taken installed) installed long generation;
 }
   where
