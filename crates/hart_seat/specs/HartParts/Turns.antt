@@ -1,5 +1,6 @@
 -- What a hart has of its next turn.
-use Rattle.std.specs.Prelude.{◌≡◌, ◌⊎◌, ℕ, List, ◌+◌, ◌*◌, ◌%◌, ◌^◌, ◌<◌, ◌≤◌, [], ◌∷◌}
+use Rattle.std.specs.Prelude.{◌≡◌, ◌⊎◌, ℕ, Bool, true, false, ◌&&◌, not, List, ◌+◌, ◌*◌, ◌%◌, ◌^◌, ◌<◌, ◌≤◌, [], ◌∷◌}
+use Rattle.std.specs.Option.{is_some}
 use Rattle.ld_base.specs.declared.fault.Shown.{Shown}
 use Rattle.hart_moves.specs.Harts.{HartState, Naming, Phase, Resolving}
 use Rattle.hart_seat.specs.HartParts.Queues.{below}
@@ -40,3 +41,16 @@ HasParts b (due.Store text stored word) = (b.phase ≡ Phase.storing text stored
 HasParts b (due.Enter function) = Unit {0}
 HasParts b (due.Complete purpose object behind) =
     b.frames ≡ record { purpose = purpose_of purpose.now; queue = record { object = object; addresses = [] } ∷ behind.now } ∷ below b.frames
+
+-- ---- for the code of this crate alone
+
+-- a granted slot's turns come first
+abbrev pub has_slot_turn : Resolving → Bool
+has_slot_turn r = elim r [ Resolving.to_exchange o ↦ true | Resolving.to_finish o found ↦ true | _ ↦ false ]
+
+abbrev pub passes_nothing : Phase → Bool
+passes_nothing phase = elim phase [ Phase.at_pc ↦ true | _ ↦ false ]
+
+-- where it has fuel, its next turn is an instruction, or a service
+abbrev pub is_at_pc : HartState → Bool
+is_at_pc b = not (is_some b.«end») && (not (has_slot_turn b.resolving) && passes_nothing b.phase)

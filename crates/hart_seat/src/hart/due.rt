@@ -1,12 +1,14 @@
 //! What a hart's next turn is.
 
-ghost use Rattle.std.specs.Prelude.{◌≡◌, ℕ, List, [], None};
+ghost use Rattle.std.specs.Prelude.{◌≡◌, ◌≢◌, ℕ, ◌+◌, ◌-◌, ◌<◌, ◌≤◌, List, [], None};
 ghost use Rattle.history_state.specs.State.{State};
 ghost use Rattle.hart_moves.specs.Due.{back, by_phase, call_of, due, within_fuel};
 ghost use Rattle.hart_moves.specs.Due.{Due as is_due};
 ghost use Rattle.hart_moves.specs.Harts.{Phase as phase_is};
+ghost use Rattle.hart_moves.specs.Services.{service_at};
 ghost use Rattle.hart_seat.specs.HartParts.Views.{due_in, naming_of};
-ghost use Rattle.hart_seat.specs.HartParts.Turns.{HasFuel, HasName, HasParts};
+ghost use Rattle.hart_seat.specs.HartParts.Turns.{HasFuel, HasName, HasParts, is_at_pc};
+ghost use Rattle.rv_hart.specs.Registers.{Registers};
 
 use crate::LinkedHart;
 use crate::hart_parts::{A0, A1, A2, Call, Copying, Due, Naming, RA, number_at};
@@ -31,6 +33,34 @@ impl LinkedHart {
             Resolving::ToExchange(offered) => Due::Exchange(offered),
             Resolving::ToFinish(offered, found) => Due::Finish(offered, found),
             Resolving::Idle | Resolving::ToSettle(..) => self.within_fuel(),
+        }
+    }
+
+    /// How many of the hart's next turns are instructions, up to the first that finds its pc at a service.
+    pub fn instructions_left(&self) -> u64
+        ensures instructions { (s : State) (r : Registers) (k : ℕ) → k < result → service_at r.pc ≡ None
+            → due s (record self.now.hart { registers = r; turns = self.now.hart.turns + k }) ≡ is_due.instruction }
+        ensures no_more { (s : State) (r : Registers)
+            → due s (record self.now.hart { registers = r; turns = self.now.hart.turns + result }) ≢ is_due.instruction }
+        ensures fuel { result ≤ self.now.hart.fuel - self.now.hart.turns }
+    {
+        if self.is_at_pc() {
+            self.fuel.saturating_sub(self.turns)
+        } else {
+            0
+        }
+    }
+
+    /// Whether the hart runs, has no turn of a granted slot to take, and passes nothing to the linker.
+    fn is_at_pc(&self) -> bool
+        ensures { result ≡ is_at_pc self.now.hart }
+    {
+        if self.end.is_some() {
+            return false;
+        }
+        match self.resolving {
+            Resolving::ToExchange(_) | Resolving::ToFinish(..) => false,
+            Resolving::Idle | Resolving::ToSettle(..) => matches!(self.phase, Phase::AtPc),
         }
     }
 
