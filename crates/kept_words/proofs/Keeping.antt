@@ -54,7 +54,7 @@ use Rattle.kept_words.proofs.Values.{settled_beside}
 
 -- ---- a longer journal
 
-front_at : {X : Type 0} (xs ys : List X) (n : ℕ) (x : X) → slice_get xs n ≡ Some x → slice_get (xs ++ ys) n ≡ Some x
+pub front_at : {X : Type 0} (xs ys : List X) (n : ℕ) (x : X) → slice_get xs n ≡ Some x → slice_get (xs ++ ys) n ≡ Some x
 front_at {X} [] ys n x e = absurd (let no : None ≡ Some x = e in cc)
 front_at {X} (z ∷ xs) ys zero x e = e
 front_at {X} (z ∷ xs) ys (suc n) x e = front_at xs ys n x e

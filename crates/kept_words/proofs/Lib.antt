@@ -1,4 +1,5 @@
 mod Asking
+mod Code
 pub mod Gone
 mod Handed
 mod Keeping

@@ -1,3 +1,4 @@
+pub mod Code
 pub mod Gone
 pub mod Handed
 pub mod Keeping

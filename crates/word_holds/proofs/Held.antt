@@ -1,7 +1,7 @@
 -- Shared words are guest memory as it should be.
 use Rattle.std.proofs.Common.{◌≡◌, ◌≢◌, ◌⊎◌, ⊎_elim, inl, inr, ℕ, ◌+◌, ◌-◌, ◌*◌, ◌/◌, ◌%◌, ◌≤◌, ◌<◌, List, Option, Some, None, Contains, refl, sym, ap, subst, ◌∙◌, arith}
 use Rattle.ld_base.specs.declared.linking.Role.{Role}
-use Rattle.ld_base.specs.declared.linking.Role.TheVariants.{None as NoRole, Ro, Rx, Rw, Slot}
+use Rattle.ld_base.specs.declared.linking.Role.TheVariants.{Ro, Rx, Slot}
 use Rattle.history_event.specs.declared.state.Granting.{Granting}
 use Rattle.history_event.specs.declared.state.Standing.TheVariants.{Bound, Open}
 use Rattle.word_rule.specs.declared.entry.Exchange.{Exchange}
@@ -14,7 +14,7 @@ use Rattle.word_rule.specs.Layout.{address_of, control_at, doublewords, first_ad
 use Rattle.word_rule.specs.Rule.{Parts}
 use Rattle.word_rule.specs.Slots.{HasWon, SlotIs, Winner}
 use Rattle.word_rule.specs.Views.{exchanges_of, kept_at, row_of}
-use Rattle.word_rule.specs.Words.{Holds as HoldsWord, Owner, hart, keeper, nobody}
+use Rattle.word_rule.specs.Words.{Holds as HoldsWord}
 use Rattle.word_rule.specs.Lemmas.SlotFrames.{at_place, in_reach}
 use Rattle.word_rule.specs.Lemmas.Unlocking.{role_is}
 use Rattle.history_state.specs.Memory.{role_at, first_word_at}
@@ -32,25 +32,17 @@ address_is : (a : ℕ) → IsDoubleword a → address_of (place_of a) ≡ a
 unfolding place_of
 address_is a is = let low = is.low in let whole = is.whole in omega arith
 
-module _ (s : State) (won : List ℕ) (number : ℕ → Grant → ℕ) (word : ℕ → ℕ) (kept : KeeperView) (harts : ℕ → HartView) (p : Parts word kept harts) (free : kept.access.locked ≡ None)
+module _ (s : State) (won : List ℕ) (number : ℕ → Grant → ℕ) (word : ℕ → ℕ) (kept : KeeperView) (harts : ℕ → HartView) (p : Parts word kept harts)
     (is : IsOfState s kept number) (w : HaveWon kept harts number won) where
-  -- a doubleword that harts may not write is locked by nobody
-  unowned : (d : ℕ) → (kept_at kept d).role ≢ Rw → (o : Owner) → p.locks.owner d ≡ o → p.locks.owner d ≡ nobody
-  unowned d other nobody e = e
-  unowned d other keeper e = let q : None ≡ Some d = sym free ∙ p.locks.keepers.owns d e in absurd (cc)
-  unowned d other (hart m) e = absurd (other (p.locks.only_rw m d ((p.locks.of_hart m).owns d e)))
-
-  holds : (a : ℕ) (da : IsDoubleword a) (r : Role) → r ≢ Rw → role_at s a ≡ r → HoldsWord r (kept_at kept (place_of a)).value (word (value_at (place_of a)))
-  holds a da r other e =
+  holds : (a : ℕ) (da : IsDoubleword a) (r : Role) → role_at s a ≡ r → HoldsWord r (kept_at kept (place_of a)).value (word (value_at (place_of a)))
+  holds a da r e =
       let d : ℕ = place_of a in
-      let role : (kept_at kept d).role ≡ r = is.role a da ∙ e in
-      let free' : p.locks.owner d ≡ nobody = unowned d (λ rw. other (sym role ∙ rw)) (p.locks.owner d) refl in
-      subst (λ r. HoldsWord r (kept_at kept d).value (word (value_at d))) role ((p.locks.each_word d (place_low a da)).holds free')
+      subst (λ r. HoldsWord r (kept_at kept d).value (word (value_at d))) (is.role a da ∙ e) (p.locks.each_word d (place_low a da)).holds
 
   fixed : (a : ℕ) → IsDoubleword a → (role_at s a ≡ Ro) ⊎ (role_at s a ≡ Rx) → word (value_at (place_of a)) ≡ first_word_at s a
   fixed a da h = ⊎_elim
-      (λ (e : role_at s a ≡ Ro). holds a da Ro (λ q. absurd (cc)) e ∙ is.word a da (inl e))
-      (λ (e : role_at s a ≡ Rx). holds a da Rx (λ q. absurd (cc)) e ∙ is.word a da (inr (inl e)))
+      (λ (e : role_at s a ≡ Ro). holds a da Ro e ∙ is.word a da (inl e))
+      (λ (e : role_at s a ≡ Rx). holds a da Rx e ∙ is.word a da (inr (inl e)))
       h
 
   -- ---- grants
