@@ -34,7 +34,7 @@ use Rattle.hart_turns.specs.declared.turned.Turned.{Turned}
 use Rattle.hart_turns.specs.declared.turned.Turned.TheVariants.{Again, Ends, Over}
 use Rattle.world_turns.specs.Lemmas.Resolution.{Resolution, resolution, rests_after}
 use Rattle.hart_linker.specs.Between.{BlocksFit, HasGrant, HasHeard, IsAtRow, IsBetweenTurns}
-use Rattle.hart_linker.specs.Serving.{EndsTurn, HasRun, ServesTurn, is_asking, is_finalising}
+use Rattle.hart_linker.specs.Serving.{EndsTurn, ServesTurn, WasRunning, is_asking, is_finalising}
 use Rattle.hart_threads.specs.Binding.{BindsSlot, exchanged_to}
 use Rattle.hart_threads.specs.Keeping.{Answers, ReadsBlock, kept_in}
 use Rattle.hart_threads.specs.Next.{HoldsSlot, IsNext}
@@ -128,8 +128,8 @@ module _ (w : Setting) (begun : List Event) (before mid : HartView) (b e : HartS
   pub end_heard : HasHeard w begun mid
   end_heard = subst (HasHeard w begun) (sym view) (stands_still w begun before _ b d between).heard
 
-  pub end_run : HasRun w mid
-  end_run = subst (HasRun w) (sym view) (record { before = b; fits = between.fits runs; runs = runs })
+  pub end_run : WasRunning w mid
+  end_run = subst (WasRunning w) (sym view) (record { before = b; fits = between.fits runs; runs = runs })
 
   pub end_calm : ((s : State) → is_own (due s b) ≡ true) → mid.lane.calling ≡ false
   end_calm own = ap (λ (h : HartView). h.lane.calling) view ∙ at_rest (after []) before b runs between.row (own_is_no_exchange (due (after []) b) (own (after [])))

@@ -34,17 +34,28 @@ settled_round h past more asked l are in_order left free = record {
     by m low None none = inl (subst (λ (es : List Event). HasNoGrant (after es) m) are (free m none))
     by m low (Some g) waits = inr (left m g low waits)
 
+pub all_settled : (h : ℕ) (k l : KeeperView) → HasSettled harts_at_most k l → ((m : ℕ) → (row_of l m).pending ≡ None → HasNoGrant (after l.events) m) → SettlesFirst h k l
+all_settled h k l all free = record {
+  settled = all.more;
+  own = [];
+  events = all.events ∙ ap (λ (es : List Event). k.events ++ es) (sym (append-nil all.more));
+  asked = all.opens;
+  opened = all.opened;
+  round = settled_round h k.events all.more all.opens l all.events all.in_order (λ m g low waits. all.left_open m g low waits) free;
+}
+
+-- the hart itself was awaited before
 pub settled_first : (h : ℕ) (k0 k l : KeeperView) → k ≡ awaited_if h true k0 → HasSettled harts_at_most k l → ((m : ℕ) → (row_of l m).pending ≡ None → HasNoGrant (after l.events) m)
     → SettlesFirst h k0 l
-settled_first h k0 k l found all free =
-    let are : l.events ≡ k0.events ++ all.more = all.events ∙ ap (λ (x : KeeperView). x.events ++ all.more) found in
+settled_first h k0 k l awaited all free =
+    let x : SettlesFirst h k l = all_settled h k l all free in
     record {
-      settled = all.more;
-      own = [];
-      events = are ∙ ap (λ (es : List Event). k0.events ++ es) (sym (append-nil all.more));
-      asked = all.opens;
-      opened = all.opened ∙ ap (λ (x : KeeperView). x.opens ++ all.opens) found;
-      round = settled_round h k0.events all.more all.opens l are all.in_order (λ m g low waits. all.left_open m g low waits) free;
+      settled = x.settled;
+      own = x.own;
+      events = x.events ∙ ap (λ (v : KeeperView). v.events ++ (x.settled ++ x.own)) awaited;
+      asked = x.asked;
+      opened = x.opened ∙ ap (λ (v : KeeperView). v.opens ++ x.asked) awaited;
+      round = subst (λ (es : List Event). IsRound es x.settled x.own h x.asked) (ap (λ (v : KeeperView). v.events) awaited) x.round;
     }
 
 -- and then the hart's own events came

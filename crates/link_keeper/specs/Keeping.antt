@@ -45,7 +45,7 @@ pub record KeepsState (w : Setting) (begun : List Event) (state : LinkTable) (k 
 
 -- folders and files are those of the run, and the library's counts show each refusal since the seats were made: `first` is what it had counted then.
 -- The events since then came round after round
-pub record IsKept (w : Setting) (begun : List Event) (first : Counts) (state : LinkTable) (k : KeeperView) (folders : List (List ℕ))
+pub record LockKeeps (w : Setting) (begun : List Event) (first : Counts) (state : LinkTable) (k : KeeperView) (folders : List (List ℕ))
     (files : Option (List File)) (counts : Counts) : Type 0 where
   pub keeps : KeepsState w begun state k
   pub folders_are : w.folders ≡ folders
@@ -57,7 +57,7 @@ pub record IsKept (w : Setting) (begun : List Event) (first : Counts) (state : L
 pub record IsClosed (w : Setting) (begun : List Event) (first : Counts) (state : LinkTable) (k : KeeperView)
     (files : Option (List File)) (counts : Counts) : Type 0 where
   pub folders : List (List ℕ)
-  pub kept : IsKept w begun first state k folders files counts
+  pub kept : LockKeeps w begun first state k folders files counts
 
 -- ---- what leaves the library's counts as they are
 
