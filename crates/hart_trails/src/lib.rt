@@ -13,5 +13,6 @@
 mod law;
 
 pub use law::{
-    blocks_are_asked_once, fuel_bounds_turns, trails_are_worked, trails_end, trails_follow, trails_grow,
+    blocks_are_asked_once, fuel_bounds_turns, trails_are_worked, trails_end, trails_follow,
+    trails_grow,
 };
