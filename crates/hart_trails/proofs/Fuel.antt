@@ -56,10 +56,12 @@ module _ (count : TurnsCount) (w : Setting) (past : List Event) (h : ℕ) (b c :
       let same : c.fuel ≡ b.fuel = counts.0 in
       record {
         fuel = same;
-        within = record { few = ⊎_elim
-            (λ (one : c.turns ≡ b.turns + 1). omega (arith, left, one, same))
-            (λ (out : RunsOut b c). let stays : c.turns ≡ b.turns = out.turns in omega (arith, left, stays, same))
-            counts.1 };
+        within = record {
+          few = ⊎_elim
+              (λ (one : c.turns ≡ b.turns + 1). omega (arith, left, one, same))
+              (λ (out : RunsOut b c). let stays : c.turns ≡ b.turns = out.turns in omega (arith, left, stays, same))
+              counts.1;
+        };
         turns = counts.1;
       }
 
@@ -85,27 +87,27 @@ module _ (count : TurnsCount) (w : Setting) (past : List Event) (h : ℕ) (b c :
 
   at_fuel : (r : Resolving) → b.resolving ≡ r → beyond r ≡ 2 → beyond (settled_resolving r) ≡ 2 → (d : Due) (t : Bool) → nat_lt b.turns b.fuel ≡ t
       → MovesAs w past h b (cond t d Due.fuel_out) did c → Spends b c
-  at_fuel r at two still d true less as = in_fuel (ltb-true b.turns b.fuel less)
-  at_fuel r at two still d false less as = runs_out r at two still as.leaves
+  at_fuel r at two still d true less moved = in_fuel (ltb-true b.turns b.fuel less)
+  at_fuel r at two still d false less moved = runs_out r at two still moved.leaves
 
   at_place : (r : Resolving) → b.resolving ≡ r → MovesAs w past h b (by_resolving (after past) b r) did c → Spends b c
   unfolding beyond
-  at_place Resolving.idle at as = at_fuel Resolving.idle at refl refl (by_phase (after past) b b.phase) (nat_lt b.turns b.fuel) refl as
-  at_place (Resolving.to_exchange o) at as =
+  at_place Resolving.idle at moved = at_fuel Resolving.idle at refl refl (by_phase (after past) b b.phase) (nat_lt b.turns b.fuel) refl moved
+  at_place (Resolving.to_exchange o) at moved =
       let few : b.turns ≤ b.fuel + beyond b.resolving = within.few in
       let none : beyond b.resolving ≡ 0 = ap beyond at in
-      on_slot (Resolving.to_finish o as.found) (omega (arith, few, none)) (ap (λ (e : HartState). e.fuel) as.leaves) (ap (λ (e : HartState). e.turns) as.leaves)
-      (ap (λ (e : HartState). e.resolving) as.leaves)
-  at_place (Resolving.to_finish o found) at as =
+      on_slot (Resolving.to_finish o moved.found) (omega (arith, few, none)) (ap (λ (e : HartState). e.fuel) moved.leaves) (ap (λ (e : HartState). e.turns) moved.leaves)
+      (ap (λ (e : HartState). e.resolving) moved.leaves)
+  at_place (Resolving.to_finish o found) at moved =
       let few : b.turns ≤ b.fuel + beyond b.resolving = within.few in
       let one : beyond b.resolving ≡ 1 = ap beyond at in
-      on_slot (Resolving.to_settle o found) (omega (arith, few, one)) (ap (λ (e : HartState). e.fuel) as.leaves) (ap (λ (e : HartState). e.turns) as.leaves)
-      (ap (λ (e : HartState). e.resolving) as.leaves)
-  at_place (Resolving.to_settle o found) at as = at_fuel (Resolving.to_settle o found) at refl refl (by_phase (after past) b b.phase) (nat_lt b.turns b.fuel) refl as
+      on_slot (Resolving.to_settle o found) (omega (arith, few, one)) (ap (λ (e : HartState). e.fuel) moved.leaves) (ap (λ (e : HartState). e.turns) moved.leaves)
+      (ap (λ (e : HartState). e.resolving) moved.leaves)
+  at_place (Resolving.to_settle o found) at moved = at_fuel (Resolving.to_settle o found) at refl refl (by_phase (after past) b b.phase) (nat_lt b.turns b.fuel) refl moved
 
   at_end : (e : Option HartEnd) → MovesAs w past h b (elim e [ Some reason ↦ Due.nothing | None ↦ by_resolving (after past) b b.resolving ]) did c → Spends b c
-  at_end (Some reason) as = absurd as
-  at_end None as = at_place b.resolving refl as
+  at_end (Some reason) moved = absurd moved
+  at_end None moved = at_place b.resolving refl moved
 
   spends : Spends b c
   unfolding due
