@@ -1,14 +1,14 @@
 -- The first hart in the final destructors, where no other hart runs. For the loop of that hart, and for the keeper, which serves it.
-use Rattle.std.specs.Prelude.{◌≡◌, ℕ, ◌≤◌, ◌<◌, List, ◌++◌, length, take, None, Contains}
+use Rattle.std.specs.Prelude.{◌≡◌, ℕ, ◌≤◌, ◌<◌, List, ◌++◌, length, take, None}
 use Rattle.history_event.specs.declared.event.Event.{Event}
 use Rattle.rv_hart.specs.Registers.{Registers}
 use Rattle.history_state.specs.After.{after}
 use Rattle.history_state.specs.Legal.{Lawful}
 use Rattle.history_state.specs.Setting.{Setting}
-use Rattle.history_calls.specs.Laws.{hart_of}
 use Rattle.hart_moves.specs.Follows.{BeginsFinals}
 use Rattle.hart_moves.specs.Harts.{HartState}
 use Rattle.hart_moves.specs.Moves.{Did, Moves, events_of}
+use Rattle.hart_trails.specs.Owners.{AreNobodys}
 use Rattle.hart_fits.specs.Fits.{HartFits, IsInFinals}
 
 -- no hart has ended twice
@@ -22,8 +22,8 @@ OwnMovesLeaveFinals = (w : Setting) (past : List Event) (b c : HartState) (did :
 
 -- events of nobody: they settle grants
 abbrev pub NobodysLeaveFinals : Type 0
-NobodysLeaveFinals = (w : Setting) (past more : List Event) (h : ℕ) (b : HartState) → ((e : Event) → Contains more e → hart_of e ≡ None)
-    → IsInFinals w past h b → IsInFinals w (past ++ more) h b
+NobodysLeaveFinals = (w : Setting) (past more : List Event) (h : ℕ) (b : HartState) → AreNobodys more → IsInFinals w past h b
+    → IsInFinals w (past ++ more) h b
 
 -- it fits where they begin
 abbrev pub FinalsBeginFit : Type 0

@@ -14,6 +14,7 @@ use Rattle.history_calls.specs.Gives.{HasBlock}
 use Rattle.hart_moves.specs.Follows.{HasNone}
 use Rattle.hart_moves.specs.Harts.{HartState, Offered, Resolving}
 use Rattle.hart_moves.specs.Trails.{event_from}
+use Rattle.hart_moves.specs.TurnEvents.Appends.{has_finals}
 use Rattle.hart_trails.specs.Entries.{IsExchange}
 use Rattle.hart_trails.specs.Owners.{AreOfHarts}
 use Rattle.hart_fits.specs.Fits.{HartFits}
@@ -35,6 +36,10 @@ pub record Hears (w : Setting) (begun : List Event) (before now : HartView) : Ty
   pub longer : BeginsWith now.heard before.heard
   pub none : HasNone now.heard before.number (length before.heard) (length now.heard)
   pub heard : HasHeard w begun now
+
+-- an entry of this generation is among these, or there is none at all
+abbrev pub HaveReached : ℕ → List Entry → Type 0
+HaveReached generation entries = (entries ≡ []) ⊎ ((e : Entry) × Contains entries e × (e.generation ≡ generation))
 
 -- of each module it keeps the block of the last answer at the generation that it kept them at, and no answer of a later one came
 pub record BlocksFit (d : BlockTable) (h : HartView) : Type 0 where
@@ -69,3 +74,5 @@ pub record IsBetweenTurns (w : Setting) (begun : List Event) (h : HartView) (b :
   -- they aren't of a later generation than what it has heard
   pub early : d.generation ≤ (after h.heard).generation
   pub current : b.«end» ≡ None → AreCurrent d h
+  -- before the final destructors an entry of that generation came: so it reads no earlier one
+  pub reached : b.«end» ≡ None → has_finals b.frames ≡ false → HaveReached d.generation (known_of h.lane)

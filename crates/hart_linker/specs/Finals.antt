@@ -21,16 +21,16 @@ abbrev pub HasNoneSince : HartView → HartView → Type 0
 HasNoneSince before now = HasNone now.heard before.number (length before.heard) (length now.heard)
 
 -- it was told of events, and nothing else of it has changed
-abbrev pub IsTold : HartView → HartView → Type 0
-IsTold before now = now ≡ record before { heard = now.heard }
+abbrev pub OnlyHears : HartView → HartView → Type 0
+OnlyHears before now = now ≡ record before { heard = now.heard }
 
 -- what came of it, over all events that the first hart knows then
 pub data BeginsLast (w : Setting) (registers : Registers) (before now : HartView) (b c : HartState) : Beginning → Type 0 where
-  others_run : have_exited w (after now.heard) ≡ false → HasNoneSince before now → IsTold before now → c ≡ b
+  others_run : have_exited w (after now.heard) ≡ false → HasNoneSince before now → OnlyHears before now → c ≡ b
       → BeginsLast w registers before now b c beginnings.HartsRun
-  none_is_left : all_finis (after now.heard) ≡ [] → HasNoneSince before now → IsTold before now → c ≡ b
+  none_is_left : all_finis (after now.heard) ≡ [] → HasNoneSince before now → OnlyHears before now → c ≡ b
       → BeginsLast w registers before now b c beginnings.NoneLeft
-  begins : BeginsFinals w now.heard registers (length before.heard) b (length now.heard) c → IsTold before now → HartFits w now.heard 0 c
+  begins : BeginsFinals w now.heard registers (length before.heard) b (length now.heard) c → OnlyHears before now → HartFits w now.heard 0 c
       → BeginsLast w registers before now b c beginnings.Begun
   lacks_memory : (past : List Event) → now.heard ≡ past ++ Ended 0 Memory ∷ [] → LacksList w now.heard (length before.heard) b (length past)
       → now.trail ≡ before.trail ++ Took (entry_behind past (Ended 0 Memory)) ∷ [] → c ≡ b

@@ -73,7 +73,7 @@ pub record EndsTurn (w : Setting) (before now : HartView) (reason : HartEnd) (b 
   pub left : c ≡ ended reason b
 
 -- before the calls of the bus of this turn the hart ran, and fitted what it has heard
-pub record HasRun (w : Setting) (h : HartView) : Type 0 where
+pub record WasRunning (w : Setting) (h : HartView) : Type 0 where
   pub before : HartState
   pub fits : HartFits w h.heard h.number before
   pub runs : before.«end» ≡ None

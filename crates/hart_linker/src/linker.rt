@@ -10,7 +10,7 @@ ghost use Rattle.history_state.specs.Owed.{times_ended};
 ghost use Rattle.history_state.specs.State.{State};
 ghost use Rattle.hart_linker.specs.Between.{BlocksFit, HasHeard, Hears, IsBetweenTurns};
 ghost use Rattle.hart_linker.specs.Finals.{BeginsLast};
-ghost use Rattle.hart_linker.specs.Serving.{EndsTurn, HasRun, ServesTurn, is_asking, is_finalising};
+ghost use Rattle.hart_linker.specs.Serving.{EndsTurn, ServesTurn, WasRunning, is_asking, is_finalising};
 ghost use Rattle.tls_blocks.specs.Blocks.{BlockTable};
 
 use crate::{Beginning, HartBlocks};
@@ -89,7 +89,7 @@ pub trait Linker<J: Opening> {
         reason: HartEnd,
     )
         requires heard { HasHeard J.setting J.journal seat.old }
-        requires run { HasRun J.setting seat.old }
+        requires run { WasRunning J.setting seat.old }
         requires calling { seat.old.lane.calling ≡ false }
         ensures turn { EndsTurn J.setting seat.old seat.new reason hart.old.hart hart.new.hart }
         ensures heard { HasHeard J.setting J.journal seat.new }

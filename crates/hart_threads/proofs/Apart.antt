@@ -1,24 +1,27 @@
 -- The harts of a run: the first has run alone, all are told of it, and run to their ends.
-use Rattle.std.proofs.Common.{◌≡◌, ℕ, zero, suc, ◌+◌, ◌<◌, ◌≤◌, false, List, ◌++◌, length, length-append, get_or, None, sym, ap, subst, ◌∙◌, arith}
+use Rattle.std.proofs.Common.{◌≡◌, ℕ, zero, suc, ◌+◌, ◌<◌, ◌≤◌, false, List, ◌++◌, length, length-append, get_or, refl, sym, ap, subst, ◌∙◌, arith}
 use Rattle.std.specs.List.{Contains}
 use Rattle.history_event.specs.declared.event.Event.{Event}
 use Rattle.history_event.specs.declared.hart_end.HartEnd.{HartEnd}
 use Rattle.rv_hart.specs.Registers.{Registers}
 use Rattle.word_rule.specs.declared.view.HartView.{HartView}
+use Rattle.word_rule.specs.declared.view.TrailItem.{TrailItem}
 use Rattle.word_rule.specs.Views.{BeginsWith, IsLane}
 use Rattle.history_state.specs.Setting.{Setting}
 use Rattle.history_calls.specs.Laws.{hart_of}
 use Rattle.tls_blocks.specs.Blocks.{BlockTable}
 use Rattle.hart_moves.specs.Harts.{HartState}
+use Rattle.hart_moves.specs.Starting.{HartStart}
 use Rattle.hart_moves.specs.TurnEvents.Laws.{FinalsStayAway, TurnsAppend}
 use Rattle.hart_fits.specs.Fits.{HartFits, OthersLeaveHart}
+use Rattle.hart_trails.specs.Ends.{IsFresh}
 use Rattle.hart_trails.specs.Laws.{TrailsStay}
 use Rattle.hart_linker.specs.Between.{Hears, IsAtRow}
-use Rattle.hart_threads.specs.Ends.{IsAtStart, IsToldOf, RanBehind, RanFirst, RanWhole, RunsAlone}
-use Rattle.hart_threads.specs.Run.{HasStarted, IsReady, IsTold, IsUnrun, RunsOn, RunsToEnd}
+use Rattle.hart_threads.specs.Ends.{IsThrough, IsToldOf, RanFirst, RanWhole, RunsAlone}
+use Rattle.hart_threads.specs.Run.{HasStarted, IsReady, IsUnrun, RunsOn, RunsToEnd}
 use Rattle.hart_threads.specs.Turns.{Proceeds}
 use Rattle.hart_threads.proofs.Begun.{first_ready, new_from, nobodys_since, on_to_told, other_ready}
-use Rattle.hart_threads.proofs.Hearing.{front_of, told_to_end}
+use Rattle.hart_threads.proofs.Hearing.{front_of, through_then}
 use Rattle.hart_threads.proofs.Stepping.{goes_further}
 use Rattle.hart_threads.proofs.Whole.{StandsAt, stands_at}
 
@@ -103,9 +106,12 @@ module _ (fit : OthersLeaveHart) (w : Setting) (begun : List Event) {X : Type 0}
     whole : (e : X) → 0 < length told → (seat (get_or alone 0 e)).heard ≡ begun ++ (first e).proceeds.longer.0
     whole e some = (first e).proceeds.longer.1 ∙ ap (λ (es : List Event). es ++ (first e).proceeds.longer.0) (heard 0 e (let a = more in let b = count in omega (arith, some, a, b)))
 
-    pub runs_alone : (d e : X) → 0 < length told → get_or alone 0 e ≡ get_or alone 0 d
-        → RunsAlone w begun (first e).proceeds.longer.0 (seat (get_or old 0 d)) (seat (get_or told 0 d)) (hart (get_or old 0 d)) (hart (get_or told 0 d))
-    runs_alone d e some same = record {
+    pub runs_alone : (d e : X) → 0 < length told → IsFresh (hart (get_or old 0 d)) → HartFits w (seat (get_or old 0 d)).heard (seat (get_or old 0 d)).number (hart (get_or old 0 d))
+        → get_or alone 0 e ≡ get_or alone 0 d → RunsAlone w begun (first e).proceeds.longer.0 (seat (get_or old 0 d)) (seat (get_or told 0 d)) (hart (get_or old 0 d)) (hart (get_or told 0 d))
+    runs_alone d e some fresh fits same = record {
+      first = numbers 0 d (let a = more in let b = count in omega (arith, some, a, b));
+      fresh = fresh;
+      fits = fits;
       seat = seat (get_or alone 0 d);
       on = subst (Proceeds w (seat (get_or old 0 d)) (seat (get_or alone 0 d)) (hart (get_or old 0 d))) (sym (same_hart 0 d)) (first d).proceeds;
       heard = ap (λ (x : X). (seat x).heard) (sym same) ∙ whole e some;
@@ -122,12 +128,6 @@ module _ (fit : OthersLeaveHart) (w : Setting) (begun : List Event) {X : Type 0}
 
 -- ---- they run to their ends, and are told again
 
--- another behind the first one
-pub behind_it : TrailsStay → (w : Setting) (begun alone : List Event) (first before told run last : HartView) (b c : HartState) (d : BlockTable) → IsToldOf w begun alone before told
-    → RunsToEnd w begun told run b c d → IsTold w begun first run last → RanBehind w begun alone before last b c d
-behind_it stay w begun alone first before told run last b c d is runs again =
-    record { told = told; is_told = is; runs = told_to_end stay w begun first told run last b c d runs again }
-
 -- the first one, once it had run alone
 module _ (stay : TrailsStay) (w : Setting) (begun alone : List Event) (before told run last : HartView) (b m c : HartState) (d : BlockTable) (x : RunsAlone w begun alone before told b m)
     (runs : RunsToEnd w begun told run m c d) (again : Hears w begun run last) where
@@ -137,10 +137,9 @@ module _ (stay : TrailsStay) (w : Setting) (begun alone : List Event) (before to
   pub on_whole : Proceeds w before last b c
   on_whole = goes_further w before x.seat last b m c x.on on_alone
 
-  module _ (append : TurnsAppend) (away : FinalsStayAway) (registers : Registers) (now : HartView) (reason : HartEnd) (over : HasStarted m) (starts : IsAtStart b) (fits : HartFits w before.heard before.number b)
-      (finished : StandsAt w (record { from = length x.seat.heard; registers = registers; hart = m }) x.seat.trail last c
-      → RanWhole w (record { from = length x.seat.heard; registers = registers; hart = m }) x.seat.trail now reason)
-      (through : BeginsWith now.heard last.heard) where
+  module _ (append : TurnsAppend) (away : FinalsStayAway) (registers : Registers) (now : HartView) (reason : HartEnd) (over : HasStarted m)
+      (finished : (start : HartStart) (own : List TrailItem) → start.registers ≡ registers → StandsAt w start own last c → RanWhole w start own now reason)
+      (through : IsThrough w begun last now) where
     pub ran_first : RanFirst w begun alone registers before now b reason
     ran_first = record {
       seat = x.seat;
@@ -148,7 +147,10 @@ module _ (stay : TrailsStay) (w : Setting) (begun alone : List Event) (before to
       on = x.on;
       heard = x.heard;
       over = over;
-      further = front_of now last x.seat through on_alone.longer;
-      rest = finished (stands_at w (record { from = length x.seat.heard; registers = registers; hart = m }) x.seat.trail x.seat last m c on_alone
-          (new_from append away w registers before x.seat b m fits starts.runs starts.no_finals x.on));
+      further = front_of now last x.seat through.longer on_alone.longer;
+      rest = finished (record { from = length x.seat.heard; registers = registers; hart = m }) x.seat.trail refl
+          (stands_at w (record { from = length x.seat.heard; registers = registers; hart = m }) x.seat.trail x.seat last m c on_alone
+          (new_from append away w registers before x.seat b m x.fits x.fresh.runs x.fresh.no_finals x.on));
+      whole = λ start own same low new r. finished start own same (stands_at w start own before last b c on_whole (record { low = low; new = new; runs = r }));
+      through = through_then w begun before last now on_whole.same on_whole.longer through;
     }

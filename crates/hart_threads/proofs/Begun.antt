@@ -35,7 +35,7 @@ use Rattle.hart_fits.specs.Fits.{HartFits, IsBefore, IsInFinals, OthersLeaveHart
 use Rattle.hart_fits.specs.Lemmas.Owners.{owners_end}
 use Rattle.hart_fits.specs.Lemmas.Settling.{all_settled}
 use Rattle.hart_fits.specs.Lemmas.Waits.{others_leave_waits}
-use Rattle.hart_linker.specs.Between.{AreCurrent, Hears, IsAtRow, IsBetweenTurns}
+use Rattle.hart_linker.specs.Between.{AreCurrent, HaveReached, Hears, IsAtRow, IsBetweenTurns}
 use Rattle.hart_linker.specs.Lemmas.Hearing.{blocks_told, early_on, hears_between, row_told}
 use Rattle.hart_trails.specs.Laws.{TrailsStay}
 use Rattle.hart_trails.specs.Trails.{FollowsBy}
@@ -169,6 +169,7 @@ module _ (others : OthersLeaveHart) (w : Setting) (begun : List Event) (before n
       blocks = blocks_told w begun before now d x at.blocks;
       early = early_on d before.heard more now.heard x.longer.1 at.early;
       current = λ on. current;
+      reached = λ on none. subst (HaveReached d.generation) (sym (ap (λ (h : HartView). known_of h.lane) x.told)) (at.reached runs none);
     };
     calm = λ reason over. absurd (let no : None ≡ Some reason = sym runs ∙ over in cc);
   }

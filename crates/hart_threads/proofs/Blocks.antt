@@ -9,6 +9,7 @@ use Rattle.std.proofs.lemmas.List.Elements.{Contains-append_right}
 use Rattle.std.proofs.lemmas.Option.{none-some}
 use Rattle.history_event.specs.declared.event.Event.{Event}
 use Rattle.history_event.specs.declared.state.Module.{Module}
+use Rattle.word_rule.specs.declared.entry.Entry.{Entry}
 use Rattle.word_rule.specs.declared.view.HartView.{HartView}
 use Rattle.word_rule.specs.declared.view.TrailItem.{TrailItem}
 use Rattle.word_rule.specs.declared.view.TrailItem.TheVariants.{Generation as ReadGeneration}
@@ -26,8 +27,9 @@ use Rattle.hart_moves.specs.Due.{Due, Return, back, due}
 use Rattle.hart_moves.specs.Harts.{HartState}
 use Rattle.hart_moves.specs.Moves.{Did, Moves, MovesAs}
 use Rattle.hart_moves.specs.Trails.{Located, beside_of, block_of, located_by}
+use Rattle.hart_moves.specs.TurnEvents.Appends.{has_finals}
 use Rattle.hart_trails.specs.Trails.{Leaves, Reads}
-use Rattle.hart_linker.specs.Between.{AreCurrent, BlocksFit}
+use Rattle.hart_linker.specs.Between.{AreCurrent, BlocksFit, HaveReached}
 use Rattle.hart_threads.specs.Keeping.{Answers, ReadsBlock, kept_in}
 use Rattle.hart_threads.specs.Turns.{TakesTurn}
 use Rattle.hart_threads.proofs.Stepping.{turn_here}
@@ -130,13 +132,14 @@ was_read before now blocks number offset b c result generation x none =
     none x.generation (subst (λ (trail : List TrailItem). Contains (readings_of trail) x.generation) (sym (ap (λ (h : HartView). h.trail) x.view))
     (readings_end before.trail x.generation number (last_block x.generation number before.lane.taken)))
 
--- behind what the hart has heard, no block of the linker's generation was kept
+-- no block was kept of the generation that was read, nor, behind what the hart has heard, of the linker's
 pub reads_none : (before now : HartView) (blocks : BlockTable) (number offset : ℕ) (b c : HartState) (result : Bool) (s : State) → before.lane.offer ≡ None
-    → BlocksFit blocks before → AreCurrent blocks before → (after before.heard).generation ≤ s.generation
+    → BlocksFit blocks before → AreCurrent blocks before → (has_finals b.frames ≡ false → HaveReached blocks.generation (known_of before.lane))
+    → (after before.heard).generation ≤ s.generation
     → due s b ≡ Due.serve (locates number offset) (back b) → (x : ReadsBlock before now blocks number offset b c result) → x.generation ≤ s.generation
     → kept_in blocks x.generation number ≡ None → Reads s b (ReadGeneration x.generation number (last_block x.generation number before.lane.taken) ∷ [])
-reads_none before now blocks number offset b c result s idle fit current rises is x early none =
-    Reads.none_kept number offset x.generation (last_block x.generation number before.lane.taken) (back b) is early by
+reads_none before now blocks number offset b c result s idle fit current reached rises is x early none =
+    Reads.none_kept number offset x.generation (last_block x.generation number before.lane.taken) (back b) is early (record { before_finals = before_finals; of_linker = of_linker })
   where
     taken : known_of before.lane ≡ before.lane.taken
     taken = known_taken before idle
@@ -147,12 +150,28 @@ reads_none before now blocks number offset b c result s idle fit current rises i
         ap (last_block x.generation number) (sym taken) ∙ ap (λ (g : ℕ). last_block g number (known_of before.lane)) (sym same) ∙ sym (fit.same number)
         ∙ ap (λ (t : Bool). cond t (block_at blocks.entries number) None) (sym (eq-eqb blocks.generation x.generation same)) ∙ none
 
-    by : x.generation ≡ s.generation → last_block x.generation number before.lane.taken ≡ None
-    by same = ⊎_elim
-        (λ (theirs : blocks.generation ≡ (after before.heard).generation). dite (ℕ_discrete blocks.generation x.generation)
-        (λ (e : blocks.generation ≡ x.generation). at_theirs e)
+    -- nor of a later one
+    from_theirs : blocks.generation ≤ x.generation → last_block x.generation number before.lane.taken ≡ None
+    from_theirs low = dite (ℕ_discrete blocks.generation x.generation)
+        (λ (same : blocks.generation ≡ x.generation). at_theirs same)
         (λ (other : blocks.generation ≢ x.generation).
-        let later : blocks.generation < x.generation = omega (arith, theirs, rises, same, other) in
-        ap (last_block x.generation number) (sym taken) ∙ fit.latest x.generation number later))
-        (λ (empty : known_of before.lane ≡ []). ap (last_block x.generation number) (sym taken ∙ empty))
+        let later : blocks.generation < x.generation = omega (arith, low, other) in
+        ap (last_block x.generation number) (sym taken) ∙ fit.latest x.generation number later)
+
+    without : known_of before.lane ≡ [] → last_block x.generation number before.lane.taken ≡ None
+    without empty = ap (last_block x.generation number) (sym taken ∙ empty)
+
+    before_finals : has_finals b.frames ≡ false → last_block x.generation number before.lane.taken ≡ None
+    before_finals calm = ⊎_elim
+        (λ (empty : known_of before.lane ≡ []). without empty)
+        (λ (y : (e : Entry) × Contains (known_of before.lane) e × (e.generation ≡ blocks.generation)).
+        let low : y.0.generation ≤ x.generation = x.latest y.0 y.1 in
+        let same : y.0.generation ≡ blocks.generation = y.2 in
+        from_theirs (omega (arith, low, same)))
+        (reached calm)
+
+    of_linker : x.generation ≡ s.generation → last_block x.generation number before.lane.taken ≡ None
+    of_linker same = ⊎_elim
+        (λ (theirs : blocks.generation ≡ (after before.heard).generation). from_theirs (omega (arith, theirs, rises, same)))
+        (λ (empty : known_of before.lane ≡ []). without empty)
         current.current

@@ -15,6 +15,7 @@ use Rattle.hart_moves.specs.Moves.{Did, Moves, MovesAs}
 use Rattle.hart_trails.specs.Entries.{IsExchange}
 use Rattle.hart_trails.specs.Trails.{Leaves}
 use Rattle.hart_moves.specs.Trails.{event_from}
+use Rattle.hart_moves.specs.TurnEvents.Appends.{has_finals}
 use Rattle.hart_fits.specs.Finals.{OwnMovesFit}
 use Rattle.hart_fits.specs.Fits.{HartFits}
 use Rattle.history_state.specs.Lemmas.History.{legal_is_lawful}
@@ -24,7 +25,7 @@ use Rattle.word_rule.specs.Views.{known_of}
 use Rattle.hart_linker.specs.Between.{HasGrant, IsAtRow, IsBetweenTurns}
 use Rattle.hart_threads.specs.Binding.{BindsSlot, done_to, exchanged_to}
 use Rattle.hart_threads.specs.Turns.{TakesTurn}
-use Rattle.hart_threads.proofs.Standing.{SameKnown, blocks_stay, current_stays, heard_stays, known_back}
+use Rattle.hart_threads.proofs.Standing.{SameKnown, blocks_stay, current_stays, heard_stays, known_back, reached_stays}
 use Rattle.hart_threads.proofs.Stepping.{turn_here}
 
 due_by : (s : State) (b : HartState) (r : Resolving) → b.«end» ≡ None → b.resolving ≡ r → due s b ≡ by_resolving s b r
@@ -104,4 +105,5 @@ bound_stands fit w begun o before now b c d between runs is held x =
       blocks = blocks_stay d before now known between.blocks;
       early = subst (λ (es : List Event). d.generation ≤ (after es).generation) (sym same.heard) between.early;
       current = λ on. current_stays d before now same (between.current runs);
+      reached = λ on calm. reached_stays d before now known (between.reached runs (ap (λ (z : HartState). has_finals z.frames) (sym left) ∙ calm));
     }

@@ -15,7 +15,7 @@ use Rattle.hart_trails.specs.Trails.{FollowsBy}
 use Rattle.hart_linker.specs.Between.{HasHeard, Hears, IsBetweenTurns}
 use Rattle.hart_linker.specs.Lemmas.Hearing.{hears_between}
 use Rattle.hart_threads.specs.Ends.{IsThrough}
-use Rattle.hart_threads.specs.Run.{IsTold, RunsOn, RunsToEnd}
+use Rattle.hart_threads.specs.Run.{HearsUpTo, RunsOn, RunsToEnd}
 use Rattle.hart_threads.specs.Turns.{Proceeds}
 use Rattle.hart_threads.proofs.Running.{runs_further}
 use Rattle.hart_threads.proofs.Stepping.{none_joined, none_there}
@@ -97,17 +97,17 @@ hears_to_end stay w begun before mid now a b d x lane y =
     record { runs = runs_further w begun before mid now a b b d d x.runs told; ended = x.ended }
 
 -- it still is where the first hart hears of more
-pub told_still : (w : Setting) (begun : List Event) (first later before now : HartView) → Hears w begun first later → IsTold w begun first before now → IsTold w begun later before now
+pub told_still : (w : Setting) (begun : List Event) (first later before now : HartView) → Hears w begun first later → HearsUpTo w begun first before now → HearsUpTo w begun later before now
 told_still w begun first later before now more x = record {
   hears = x.hears;
   front = (x.front.0 ++ more.longer.0, more.longer.1 ∙ ap (λ (es : List Event). es ++ more.longer.0) x.front.1 ∙ append_assoc now.heard x.front.0 more.longer.0);
   lane = x.lane;
 }
 
-pub told_same : (w : Setting) (begun : List Event) (first before now : HartView) → Hears w begun before now → now.heard ≡ first.heard → IsLane before.lane → IsTold w begun first before now
+pub told_same : (w : Setting) (begun : List Event) (first before now : HartView) → Hears w begun before now → now.heard ≡ first.heard → IsLane before.lane → HearsUpTo w begun first before now
 told_same w begun first before now x same lane = record { hears = x; front = ([], sym same ∙ sym (append-nil now.heard)); lane = lane }
 
-pub told_to_end : TrailsStay → (w : Setting) (begun : List Event) (first before mid now : HartView) (a b : HartState) (d : BlockTable) → RunsToEnd w begun before mid a b d → IsTold w begun first mid now
+pub told_to_end : TrailsStay → (w : Setting) (begun : List Event) (first before mid now : HartView) (a b : HartState) (d : BlockTable) → RunsToEnd w begun before mid a b d → HearsUpTo w begun first mid now
     → RunsToEnd w begun before now a b d
 told_to_end stay w begun first before mid now a b d x told = hears_to_end stay w begun before mid now a b d x told.lane told.hears
 

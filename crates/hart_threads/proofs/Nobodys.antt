@@ -15,7 +15,8 @@ use Rattle.history_state.specs.State.{State}
 use Rattle.history_state.specs.Step.{settle, step}
 use Rattle.history_calls.specs.Laws.{hart_of}
 use Rattle.hart_moves.specs.Moves.{all_finis}
-use Rattle.hart_threads.specs.Laws.{AreNobodys, RestIsNobodys, WaysStay, WaysStayBehind}
+use Rattle.hart_trails.specs.Owners.{AreNobodys}
+use Rattle.hart_threads.specs.Laws.{RestIsNobodys, WaysStay, WaysStayBehind}
 
 -- ---- the end of a run is as it was
 

@@ -23,6 +23,7 @@ use Rattle.tls_blocks.specs.Blocks.{BlockTable}
 use Rattle.hart_moves.specs.Due.{Due, back, due}
 use Rattle.hart_moves.specs.Harts.{HartState, Offered, Resolving}
 use Rattle.hart_moves.specs.Moves.{Did, Moves, MovesAs, ended, settled_resolving, spent}
+use Rattle.hart_moves.specs.TurnEvents.Laws.{FinalsStay}
 use Rattle.hart_fits.specs.Finals.{OwnMovesFit}
 use Rattle.hart_trails.specs.Entries.{entry_behind}
 use Rattle.hart_trails.specs.Laws.{TrailsStay, TurnsBehind}
@@ -33,7 +34,7 @@ use Rattle.hart_turns.specs.declared.turned.Turned.{Turned}
 use Rattle.hart_turns.specs.declared.turned.Turned.TheVariants.{Again, Ends, Over}
 use Rattle.world_turns.specs.Lemmas.Resolution.{Resolution, resolution, rests_after}
 use Rattle.hart_linker.specs.Between.{BlocksFit, HasGrant, HasHeard, IsAtRow, IsBetweenTurns}
-use Rattle.hart_linker.specs.Serving.{EndsTurn, HasRun, ServesTurn, is_asking, is_finalising}
+use Rattle.hart_linker.specs.Serving.{EndsTurn, ServesTurn, WasRunning, is_asking, is_finalising}
 use Rattle.hart_threads.specs.Binding.{BindsSlot, exchanged_to}
 use Rattle.hart_threads.specs.Keeping.{Answers, ReadsBlock, kept_in}
 use Rattle.hart_threads.specs.Next.{HoldsSlot, IsNext}
@@ -127,8 +128,8 @@ module _ (w : Setting) (begun : List Event) (before mid : HartView) (b e : HartS
   pub end_heard : HasHeard w begun mid
   end_heard = subst (HasHeard w begun) (sym view) (stands_still w begun before _ b d between).heard
 
-  pub end_run : HasRun w mid
-  end_run = subst (HasRun w) (sym view) (record { before = b; fits = between.fits runs; runs = runs })
+  pub end_run : WasRunning w mid
+  end_run = subst (WasRunning w) (sym view) (record { before = b; fits = between.fits runs; runs = runs })
 
   pub end_calm : ((s : State) → is_own (due s b) ≡ true) → mid.lane.calling ≡ false
   end_calm own = ap (λ (h : HartView). h.lane.calling) view ∙ at_rest (after []) before b runs between.row (own_is_no_exchange (due (after []) b) (own (after [])))
@@ -185,6 +186,7 @@ module _ (stay : TrailsStay) (behind : TurnsBehind) (w : Setting) (begun : List 
     blocks = blocks;
     early = early;
     current = λ on. absurd (let no : None ≡ Some reason = sym on ∙ over in cc);
+    reached = λ on. absurd (let no : None ≡ Some reason = sym on ∙ over in cc);
   }
     where
       by : (r : Resolving) → b.resolving ≡ r → IsAtRow before r → IsAtRow now (settled_resolving r)
@@ -269,7 +271,7 @@ module _ (stay : TrailsStay) (behind : TurnsBehind) (w : Setting) (begun : List 
       by : (k : Option ℕ) → kept_in d x.generation number ≡ k → RunsOn w begun before now b c e
       by (Some block) at = absurd (let no = subst (λ o. Answers offset b b o false) at x.answers in let f : false ≡ true = no.0 in cc)
       by None at =
-          let reads : Reads (after past) b (item ∷ []) = reads_none before mid d number offset b b false (after past) idle between.blocks (between.current runs) rises (is (after past)) x
+          let reads : Reads (after past) b (item ∷ []) = reads_none before mid d number offset b b false (after past) idle between.blocks (between.current runs) (between.reached runs) rises (is (after past)) x
           (was_read before mid d number offset b b false (after past).generation x y.read) at in
           record {
             proceeds = proceeds stay behind w before now b c (item ∷ y.items)
@@ -309,6 +311,9 @@ module _ (fit : OwnMovesFit) (stay : TrailsStay) (behind : TurnsBehind) (w : Set
   bind_on before now b c d between runs (inl (o, is)) x = bind_at o before now b c d between runs is (subst (IsAtRow before) is between.row) x
   bind_on before now b c d between runs (inr (o, found, is)) x = absurd (subst (IsAtRow before) is between.row)
 
+-- ---- with what no turn leaves
+
+module _ (fit : OwnMovesFit) (finals : FinalsStay) (stay : TrailsStay) (behind : TurnsBehind) (w : Setting) (begun : List Event) where
   -- ---- a quiet turn
 
   still : (h : ℕ) (past : List Event) (b c : HartState) (items : List Item) → Resolution past h b (Did.quiet items) c → c.resolving ≡ b.resolving
@@ -324,7 +329,7 @@ module _ (fit : OwnMovesFit) (stay : TrailsStay) (behind : TurnsBehind) (w : Set
   quiet_at before now b c d items between runs view moves = record {
     proceeds = proceeds stay behind w before now b c (map Call (items_left in_memory items)) (ap (λ (h : HartView). h.trail) view) (quiet_turn w before now b c items view moves);
     between = subst (λ (h : HartView). IsBetweenTurns w begun h c d) (sym view)
-        (stands_on fit w begun before (map Call (items_left in_memory items)) b c d (Did.quiet items) between runs moves refl
+        (stands_on fit finals w begun before (map Call (items_left in_memory items)) b c d (Did.quiet items) between runs moves refl
         (row_of moves));
     calm = λ reason over. ap (λ (h : HartView). h.lane.calling) view ∙ calm_after w before.heard before.number before b c (Did.quiet items) moves (row_of moves) reason over;
   }
@@ -362,7 +367,7 @@ module _ (fit : OwnMovesFit) (stay : TrailsStay) (behind : TurnsBehind) (w : Set
           record {
             proceeds = proceeds stay behind w before now b c (item ∷ []) (ap (λ (h : HartView). h.trail) x.view) turn;
             between = subst (λ (h : HartView). IsBetweenTurns w begun h c d) (sym x.view)
-                (stands_on fit w begun before (item ∷ []) b c d (Did.serves [] []) between runs moves refl
+                (stands_on fit finals w begun before (item ∷ []) b c d (Did.serves [] []) between runs moves refl
                 row);
             calm = λ reason over. ap (λ (h : HartView). h.lane.calling) x.view ∙ calm_after w before.heard before.number before b c (Did.serves [] []) moves row reason over;
           }

@@ -1,5 +1,6 @@
 -- A hart stays between two turns: with the same row where only its trail grows, and once it has given a grant's row back.
-use Rattle.std.proofs.Common.{◌≡◌, inl, inr, ⊎_elim, ℕ, ◌≤◌, false, List, [], ◌∷◌, ◌++◌, length, Some, None, refl, sym, ap, subst, ◌∙◌, append-nil}
+use Rattle.std.proofs.Common.{◌≡◌, inl, inr, ⊎_elim, ℕ, ◌≤◌, Bool, true, false, List, [], ◌∷◌, ◌++◌, length, Some, None, refl, sym, ap, subst, ◌∙◌, append-nil}
+use Rattle.std.proofs.lemmas.Bool.{false≢true}
 use Rattle.std.specs.List.{Contains}
 use Rattle.history_event.specs.declared.event.Event.{Event}
 use Rattle.word_rule.specs.declared.entry.Entry.{Entry}
@@ -20,10 +21,12 @@ use Rattle.tls_blocks.specs.Blocks.{BlockTable}
 use Rattle.hart_moves.specs.Due.{Due, due}
 use Rattle.hart_moves.specs.Harts.{HartState, Offered, Resolving}
 use Rattle.hart_moves.specs.Moves.{Did, Moves, events_of, settled_resolving}
+use Rattle.hart_moves.specs.TurnEvents.Appends.{has_finals}
+use Rattle.hart_moves.specs.TurnEvents.Laws.{FinalsStay}
 use Rattle.hart_fits.specs.Finals.{OwnMovesFit}
 use Rattle.hart_fits.specs.Fits.{HartFits}
 use Rattle.hart_trails.specs.Owners.{AreOfHarts}
-use Rattle.hart_linker.specs.Between.{AreCurrent, BlocksFit, HasHeard, IsAtRow, IsBetweenTurns}
+use Rattle.hart_linker.specs.Between.{AreCurrent, BlocksFit, HasHeard, HaveReached, IsAtRow, IsBetweenTurns}
 
 -- ---- what a hart knows
 
@@ -55,6 +58,17 @@ current_stays d before now same x = record {
       x.current;
   are = λ number block at. subst (λ (p : List Event × ℕ). HasBlock (after p.0) p.1 number block) (λ i. (sym same.heard i, sym same.number i)) (x.are number block at);
 }
+
+-- what a hart knows has come before its final destructors where no turn begins them since
+pub reached_stays : (d : BlockTable) (before now : HartView) → known_of now.lane ≡ known_of before.lane → HaveReached d.generation (known_of before.lane) → HaveReached d.generation (known_of now.lane)
+reached_stays d before now known = subst (HaveReached d.generation) (sym known)
+
+pub none_before : FinalsStay → (w : Setting) (past : List Event) (h : ℕ) (b c : HartState) (did : Did) → Moves w past h b did c → c.«end» ≡ None → has_finals c.frames ≡ false → has_finals b.frames ≡ false
+none_before stay w past h b c did moves on none = by (has_finals b.frames) refl
+  where
+    by : (t : Bool) → has_finals b.frames ≡ t → has_finals b.frames ≡ false
+    by false is = is
+    by true is = absurd (false≢true (sym none ∙ stay w past h b c did moves is on))
 
 -- ---- rows
 
@@ -94,10 +108,10 @@ rests_at h (Resolving.to_settle o found) calm is = calm
 -- ---- between two turns again
 
 -- more stands in its trail, behind a move without events
-pub stands_on : OwnMovesFit → (w : Setting) (begun : List Event) (before : HartView) (items : List TrailItem) (b c : HartState) (d : BlockTable) (did : Did)
+pub stands_on : OwnMovesFit → FinalsStay → (w : Setting) (begun : List Event) (before : HartView) (items : List TrailItem) (b c : HartState) (d : BlockTable) (did : Did)
     → IsBetweenTurns w begun before b d → b.«end» ≡ None → Moves w before.heard before.number b did c → events_of did ≡ [] → IsAtRow before c.resolving
     → IsBetweenTurns w begun (with_items items before) c d
-stands_on fit w begun before items b c d did x runs moves none row =
+stands_on fit stay w begun before items b c d did x runs moves none row =
     let same : SameKnown before (with_items items before) = record { number = refl; heard = refl; known = refl } in
     record {
       heard = heard_stays w begun before (with_items items before) same x.heard;
@@ -107,6 +121,7 @@ stands_on fit w begun before items b c d did x runs moves none row =
       blocks = blocks_stay d before (with_items items before) refl x.blocks;
       early = x.early;
       current = λ on. current_stays d before (with_items items before) same (x.current runs);
+      reached = λ on calm. reached_stays d before (with_items items before) refl (x.reached runs (none_before stay w before.heard before.number b c did moves on calm));
     }
 
 -- only its trail is longer
@@ -121,6 +136,7 @@ stands_still w begun before items b d x =
       blocks = blocks_stay d before (with_items items before) refl x.blocks;
       early = x.early;
       current = λ on. current_stays d before (with_items items before) same (x.current on);
+      reached = x.reached;
     }
 
 -- ---- a grant's row is given back

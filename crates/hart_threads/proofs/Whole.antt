@@ -26,7 +26,7 @@ use Rattle.hart_trails.specs.Entries.{entry_behind}
 use Rattle.hart_trails.specs.Laws.{TrailsStay}
 use Rattle.hart_trails.specs.Trails.{FollowsBy, LeavesBehind}
 use Rattle.hart_linker.specs.Between.{HasHeard}
-use Rattle.hart_linker.specs.Finals.{BeginsLast, IsTold}
+use Rattle.hart_linker.specs.Finals.{BeginsLast, OnlyHears}
 use Rattle.hart_linker.specs.declared.finals.Beginning.{Beginning}
 use Rattle.hart_linker.specs.declared.finals.Beginning.TheVariants as beginnings
 use Rattle.hart_threads.specs.Ends.{EndsTold, IsNewAt, RanWhole}
@@ -176,10 +176,10 @@ module _ (stay : TrailsStay) (w : Setting) (start : HartStart) (begun : List Tra
 
 module _ (stay : TrailsStay) (w : Setting) (start : HartStart) (begun : List TrailItem) (before now : HartView) (b c : HartState) (first_end : HartEnd)
     (r : RunsBy w start.from start.hart begun before b) (over : b.«end» ≡ Some first_end) (longer : BeginsWith now.heard before.heard) (number : before.number ≡ 0) where
-  told_same : IsTold before now → now.number ≡ before.number
+  told_same : OnlyHears before now → now.number ≡ before.number
   told_same told = ap (λ (h : HartView). h.number) told
 
-  told_trail : IsTold before now → now.trail ≡ before.trail
+  told_trail : OnlyHears before now → now.trail ≡ before.trail
   told_trail told = ap (λ (h : HartView). h.trail) told
 
   pub by_running : (result : Beginning) → BeginsLast w start.registers before now b c result → result ≡ beginnings.HartsRun → RanWhole w start begun now first_end

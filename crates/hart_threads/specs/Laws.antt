@@ -1,5 +1,5 @@
 -- What holds of whole ways. For whoever closes a run, and ties each hart's trail to its journal.
-use Rattle.std.specs.Prelude.{◌≡◌, ◌≢◌, ℕ, ◌<◌, List, ◌++◌, length, Some, None, Contains}
+use Rattle.std.specs.Prelude.{◌≡◌, ◌≢◌, ℕ, ◌<◌, List, ◌++◌, length, Some, Contains}
 use Rattle.history_event.specs.declared.event.Event.{Event}
 use Rattle.history_event.specs.declared.hart_end.HartEnd.{HartEnd}
 use Rattle.word_rule.specs.declared.view.HartView.{HartView}
@@ -11,6 +11,7 @@ use Rattle.hart_moves.specs.Follows.{AreOthers, HasNone}
 use Rattle.hart_moves.specs.Harts.{HartState}
 use Rattle.hart_moves.specs.Moves.{all_finis}
 use Rattle.hart_moves.specs.Starting.{HartStart}
+use Rattle.hart_trails.specs.Owners.{AreNobodys}
 use Rattle.hart_trails.specs.Trails.{LeavesToItsEnd}
 use Rattle.hart_threads.specs.Ends.{RanWhole}
 use Rattle.hart_threads.specs.Turns.{RunsBy}
@@ -29,9 +30,6 @@ WaysStay = (w : Setting) (journal more : List Event) (start : HartStart) (h : �
     → LeavesToItsEnd w (journal ++ more) start h reason trail
 
 -- ---- events of nobody, which settle grants
-
-abbrev pub AreNobodys : List Event → Type 0
-AreNobodys events = (e : Event) → Contains events e → hart_of e ≡ None
 
 -- whole ways stay so over them, that of the first hart, too
 abbrev pub WaysStayBehind : Type 0

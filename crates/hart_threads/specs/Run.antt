@@ -53,7 +53,7 @@ pub record IsUnrun (seat : HartView) (b : HartState) : Type 0 where
   pub none_known : known_of seat.lane ≡ []
 
 -- it was told of events, of all of which the first hart has heard, too
-pub record IsTold (w : Setting) (begun : List Event) (first before now : HartView) : Type 0 where
+pub record HearsUpTo (w : Setting) (begun : List Event) (first before now : HartView) : Type 0 where
   pub hears : Hears w begun before now
   pub front : BeginsWith first.heard now.heard
   pub lane : IsLane before.lane

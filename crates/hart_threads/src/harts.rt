@@ -1,14 +1,15 @@
 //! Harts side by side.
 
 ghost use Rattle.std.specs.Prelude.{◌≡◌, ◌<◌, ◌≤◌, ℕ, false, All, List, length, slice_index_or};
-ghost use Rattle.hart_moves.specs.Starting.{HartStart, starting_registers};
+ghost use Rattle.hart_moves.specs.Harts.{HartState};
+ghost use Rattle.hart_moves.specs.Starting.{starting_registers};
 ghost use Rattle.hart_linker.specs.Between.{HasHeard, Hears};
-ghost use Rattle.hart_threads.specs.Ends.{IsAtStart, IsNewAt, IsThrough, IsToldOf, RanBehind, RanFirst, RanWhole, RunsAlone};
-ghost use Rattle.hart_threads.specs.Run.{HasStarted, IsReady, IsTold, IsUnrun, RunsOn, RunsToEnd};
+ghost use Rattle.hart_threads.specs.Ends.{IsToldOf, RanFirst, RunsAlone};
+ghost use Rattle.hart_threads.specs.Run.{HasStarted, HearsUpTo, IsReady, IsUnrun, RunsOn, RunsToEnd};
+ghost use Rattle.hart_trails.specs.Ends.{IsFresh};
 ghost use Rattle.history_event.specs.declared.event.Event.{Event};
-ghost use Rattle.hart_threads.specs.Turns.{RunsBy};
 ghost use Rattle.word_rule.specs.Views.{BeginsWith, IsLane};
-ghost use Rattle.word_rule.specs.declared.view.TrailItem.{TrailItem};
+ghost use Rattle.word_rule.specs.declared.view.HartView.{HartView};
 
 use crate::run::HartRun;
 use hart_fits::harts_fit;
@@ -106,7 +107,7 @@ fn tell_others<R: Wait, J: Opening, K: Linker<J>>(
     requires calling { All (λ run. run.seat.lane.calling ≡ false) others.old }
     ensures first { Hears J.setting J.journal first.old first.new }
     ensures told { (i : ℕ) (d : _) → i < length others.old
-        → IsTold J.setting J.journal first.new (slice_index_or others.old i d).seat (slice_index_or others.new i d).seat }
+        → HearsUpTo J.setting J.journal first.new (slice_index_or others.old i d).seat (slice_index_or others.new i d).seat }
     ensures since { (i : ℕ) (d : _) → i < length others.old → BeginsWith (slice_index_or others.new i d).seat.heard first.old.heard }
     ensures harts { (i : ℕ) (d : _) → (slice_index_or others.new i d).hart ≡ (slice_index_or others.old i d).hart }
     ensures blocks { (i : ℕ) (d : _) → (slice_index_or others.new i d).blocks ≡ (slice_index_or others.old i d).blocks }
@@ -127,7 +128,7 @@ fn tell_all<R: Wait, J: Opening, K: Linker<J>>(
     requires heard { All (λ run. HasHeard J.setting J.journal run.seat) runs.old }
     requires calling { All (λ run. run.seat.lane.calling ≡ false) runs.old }
     ensures told { (i : ℕ) (d : _) → i < length runs.old
-        → IsTold J.setting J.journal (slice_index_or runs.new 0 d).seat (slice_index_or runs.old i d).seat (slice_index_or runs.new i d).seat }
+        → HearsUpTo J.setting J.journal (slice_index_or runs.new 0 d).seat (slice_index_or runs.old i d).seat (slice_index_or runs.new i d).seat }
     ensures since { (i : ℕ) (d : _) → i < length runs.old → BeginsWith (slice_index_or runs.new i d).seat.heard (slice_index_or runs.old 0 d).seat.heard }
     ensures harts { (i : ℕ) (d : _) → (slice_index_or runs.new i d).hart ≡ (slice_index_or runs.old i d).hart }
     ensures blocks { (i : ℕ) (d : _) → (slice_index_or runs.new i d).blocks ≡ (slice_index_or runs.old i d).blocks }
@@ -164,8 +165,9 @@ fn tell_begun<R: Wait, J: Opening, K: Linker<J>>(
     tell_all(rt, linker, memory, others);
 }
 
-/// Runs the first hart alone until startup's constructors are over, and tells all harts of what it did.
-fn start_apart<R: Wait, J: Opening, K: Linker<J>>(
+/// Starts the harts of a run: the first one runs alone until startup's constructors are over, or it has ended, and
+/// all are told of what it did. No other takes a turn.
+pub fn start_harts<R: Wait, J: Opening, K: Linker<J>>(
     rt: &R,
     linker: &K,
     memory: &Memory<J>,
@@ -176,6 +178,7 @@ fn start_apart<R: Wait, J: Opening, K: Linker<J>>(
     requires ready { All (λ run. IsReady J.setting J.journal run.seat run.hart.hart run.blocks) runs.old }
     requires numbers { (i : ℕ) (d : _) → i < length runs.old → (slice_index_or runs.old i d).seat.number ≡ i }
     requires heard { All (λ run. run.seat.heard ≡ J.journal) runs.old }
+    requires fresh { (d : _) → IsFresh (slice_index_or runs.old 0 d).hart.hart }
     requires unrun { All (λ run. IsUnrun run.seat run.hart.hart) runs.old }
     ensures ready { All (λ run. IsReady J.setting J.journal run.seat run.hart.hart run.blocks) runs.new }
     ensures over { (d : _) → HasStarted (slice_index_or runs.new 0 d).hart.hart }
@@ -191,9 +194,9 @@ fn start_apart<R: Wait, J: Opening, K: Linker<J>>(
     tell_begun(rt, linker, memory, runs);
 }
 
-/// Runs the harts of a run: the first alone until startup's constructors are over, then all side by side,
-/// and then the first in the final destructors. Answers the end that counts for the first; each other has
-/// the one that it ended with. The first has heard of all that each other has.
+/// Runs the harts of a run that were started, each to its end: all side by side, and then the first in the final
+/// destructors. Answers the end that counts for the first; each other has the one that it ended with. The first
+/// has heard of all that each other has.
 pub fn run_harts<R: Threads + Wait + Sync, J: Opening + Send + Sync, K: Linker<J> + Sync>(
     rt: &R,
     linker: &K,
@@ -204,27 +207,20 @@ pub fn run_harts<R: Threads + Wait + Sync, J: Opening + Send + Sync, K: Linker<J
     requires some { 0 < length runs.old }
     requires harts { length runs.old ≡ J.setting.machine.harts }
     requires ready { All (λ run. IsReady J.setting J.journal run.seat run.hart.hart run.blocks) runs.old }
-    requires numbers { (i : ℕ) (d : _) → i < length runs.old → (slice_index_or runs.old i d).seat.number ≡ i }
-    requires heard { All (λ run. run.seat.heard ≡ J.journal) runs.old }
-    requires starts { (d : _) → IsAtStart (slice_index_or runs.old 0 d).hart.hart }
-    requires unrun { All (λ run. IsUnrun run.seat run.hart.hart) runs.old }
-    ensures first { (d : _) (start : HartStart) (begun : List TrailItem) → start.registers ≡ starting_registers entry
-        → start.from ≤ length (slice_index_or runs.old 0 d).seat.heard → IsNewAt start (slice_index_or runs.old 0 d).seat
-        → RunsBy J.setting start.from start.hart begun (slice_index_or runs.old 0 d).seat (slice_index_or runs.old 0 d).hart.hart
-        → RanWhole J.setting start begun (slice_index_or runs.new 0 d).seat result }
-    ensures through { (d : _) → IsThrough J.setting J.journal (slice_index_or runs.old 0 d).seat (slice_index_or runs.new 0 d).seat }
-    ensures apart { (alone : List Event)
-        × ((d : _) → RanFirst J.setting J.journal alone (starting_registers entry) (slice_index_or runs.old 0 d).seat
-        (slice_index_or runs.new 0 d).seat (slice_index_or runs.old 0 d).hart.hart result)
-        × ((i : ℕ) (d : _) → 0 < i → i < length runs.old
-        → RanBehind J.setting J.journal alone (slice_index_or runs.old i d).seat (slice_index_or runs.new i d).seat
-        (slice_index_or runs.old i d).hart.hart (slice_index_or runs.new i d).hart.hart (slice_index_or runs.new i d).blocks) }
+    requires over { (d : _) → HasStarted (slice_index_or runs.old 0 d).hart.hart }
+    requires alone { (d : _) → (alone : List Event) × (before : HartView) × (b : HartState)
+        × RunsAlone J.setting J.journal alone before (slice_index_or runs.old 0 d).seat b (slice_index_or runs.old 0 d).hart.hart }
+    ensures first { (d : _) (alone : List Event) (before : HartView) (b : HartState)
+        → RunsAlone J.setting J.journal alone before (slice_index_or runs.old 0 d).seat b (slice_index_or runs.old 0 d).hart.hart
+        → RanFirst J.setting J.journal alone (starting_registers entry) before (slice_index_or runs.new 0 d).seat b result }
+    ensures others { (i : ℕ) (d : _) → 0 < i → i < length runs.old
+        → RunsToEnd J.setting J.journal (slice_index_or runs.old i d).seat (slice_index_or runs.new i d).seat
+        (slice_index_or runs.old i d).hart.hart (slice_index_or runs.new i d).hart.hart (slice_index_or runs.new i d).blocks }
     ensures fronts { (i : ℕ) (d : _) → 0 < i → i < length runs.old
         → BeginsWith (slice_index_or runs.new 0 d).seat.heard (slice_index_or runs.new i d).seat.heard }
 {
     trails_grow();
     turns_append();
-    start_apart(rt, linker, memory, runs);
     run_all(rt, linker, memory, runs);
     tell_all(rt, linker, memory, runs);
     runs[0].finish(rt, linker, memory, entry)

@@ -20,7 +20,7 @@ use crate::next::{Next, holds_no_slot, next_turn};
 use crate::quiet::{end_of, take_quiet};
 use hart_fits::own_moves_fit;
 use hart_linker::{HartBlocks, Linker, Opening};
-use hart_moves::turns_are_counted;
+use hart_moves::{turns_append, turns_are_counted};
 use hart_seat::LinkedHart;
 use hart_trails::trails_grow;
 use history_event::HartEnd;
@@ -111,6 +111,7 @@ impl<J: Opening> HartRun<J> {
         own_moves_fit();
         trails_grow();
         turns_are_counted();
+        turns_append();
         let turned = take_quiet(memory, &mut self.seat, &mut self.hart);
         if let Some(reason) = end_of(turned) {
             linker.end(rt, memory, &mut self.seat, &mut self.hart, reason);
@@ -136,6 +137,7 @@ impl<J: Opening> HartRun<J> {
         own_moves_fit();
         trails_grow();
         turns_are_counted();
+        turns_append();
         let _ = self.seat.number();
         let kept = kept_block(
             memory,

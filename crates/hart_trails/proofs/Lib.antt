@@ -1,4 +1,5 @@
 mod Ends
+mod Fuel
 mod Growing
 mod Marks
 mod Worked

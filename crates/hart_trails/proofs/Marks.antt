@@ -122,7 +122,7 @@ unknown : (s : State) (b : HartState) (read : List TrailItem) (before : List Ent
 unknown s b read before t h l (Reads.is_another none) kept at = absurd (false≢true (sym none ∙ located_is t h (due s b) l at))
 unknown s b read before t h l (Reads.none_kept number offset generation block back is low none) kept at =
     subst (λ (n : ℕ). last_block s.generation n before ≡ None) (sym (block_number t h number l (sym (ap (λ (d : Due). located_by t h d []) is) ∙ at))) (dite (ℕ_discrete generation s.generation)
-    (λ (same : generation ≡ s.generation). subst (λ (n : ℕ). last_block n number before ≡ None) same (sym kept.0.0 ∙ none same))
+    (λ (same : generation ≡ s.generation). subst (λ (n : ℕ). last_block n number before ≡ None) same (sym kept.0.0 ∙ none.of_linker same))
     (λ (other : generation ≢ s.generation). none_of_later generation s.generation number before kept.0.1 (omega (arith, low, other))))
 
 leaves_once : (past : List Event) (h : ℕ) (b : HartState) (beside : Beside) (did : Did) (items : List TrailItem) (before : List Entry) → Leaves past b beside did items → beside ≡ beside_of past h b did

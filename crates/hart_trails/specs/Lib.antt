@@ -1,5 +1,6 @@
 pub mod Ends
 pub mod Entries
+pub mod Fuel
 pub mod Laws
 pub mod Lemmas
 pub mod Owners

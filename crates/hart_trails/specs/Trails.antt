@@ -22,6 +22,7 @@ use Rattle.hart_moves.specs.Harts.{HartState, Offered}
 use Rattle.hart_moves.specs.Moves.{Did, all_finis, events_of}
 use Rattle.hart_moves.specs.Starting.{HartStart}
 use Rattle.hart_moves.specs.Trails.{Beside, Located}
+use Rattle.hart_moves.specs.TurnEvents.Appends.{has_finals}
 use Rattle.hart_trails.specs.Entries.{IsExchange, again_entry, block_entry, entry_behind}
 
 -- ---- a turn
@@ -40,12 +41,17 @@ took_behind past (e ∷ rest) = took_by past e ++ took_behind (past ++ e ∷ [])
 abbrev pub is_located : Due → Bool
 is_located turn = elim turn [ Due.serve call back ↦ elim call [ locates number offset ↦ true | _ ↦ false ] | _ ↦ false ]
 
--- before thread-local storage is asked for, the generation is read for the module. It is none later than the one at which the linker then answers;
--- and where it is that one, no block is kept of it
+-- no block is kept at the generation that was read. In the final destructors, where no other hart makes a new one, this is said of the linker's alone
+pub record FindsNone (s : State) (b : HartState) (generation : ℕ) (block : Option ℕ) : Type 0 where
+  pub before_finals : has_finals b.frames ≡ false → block ≡ None
+  pub of_linker : generation ≡ s.generation → block ≡ None
+
+-- before thread-local storage is asked for, the generation is read for the module. It is none later than the one at which the linker then answers, and
+-- no block is kept at it
 pub data Reads (s : State) (b : HartState) : List TrailItem → Type 0 where
   is_another : is_located (due s b) ≡ false → Reads s b []
   none_kept : (number offset generation : ℕ) (block : Option ℕ) (back : Return) → due s b ≡ Due.serve (locates number offset) back
-      → generation ≤ s.generation → (generation ≡ s.generation → block ≡ None) → Reads s b (ReadGeneration generation number block ∷ [])
+      → generation ≤ s.generation → FindsNone s b generation block → Reads s b (ReadGeneration generation number block ∷ [])
 
 -- what a turn behind these events leaves
 pub data Leaves (past : List Event) (b : HartState) (beside : Beside) : Did → List TrailItem → Type 0 where

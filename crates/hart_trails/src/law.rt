@@ -1,8 +1,11 @@
 //! What holds of trails.
 
 ghost use Rattle.hart_trails.specs.Ends.{EndIsLast, OneEndOfTrail, StartIsFresh};
+ghost use Rattle.hart_trails.specs.Fuel.{FuelBounds};
 ghost use Rattle.hart_trails.specs.Laws.{EndsFollow, MarksFollow, TrailsFollow, TrailsStay, TurnsBehind};
 ghost use Rattle.hart_trails.specs.Worked.{FollowsExchange};
+
+use hart_moves::turns_are_counted;
 
 /// A trail goes on with what one more turn leaves; and it is one over each longer journal.
 pub fn trails_grow()
@@ -29,6 +32,14 @@ pub fn trails_end()
 pub fn blocks_are_asked_once()
     ensures { MarksFollow }
 {}
+
+/// A hart takes no more turns than its fuel, but for three: the two of a slot that was granted in the last one,
+/// and the one in which it ends.
+pub fn fuel_bounds_turns()
+    ensures { FuelBounds }
+{
+    turns_are_counted();
+}
 
 /// A worked trail: an exchange that won, and the end of its offer.
 pub fn trails_are_worked()

@@ -26,7 +26,7 @@ use Rattle.world_turns.specs.Counts.{ShowInCounts}
 use Rattle.ldso_cli.specs.Outside.{LibraryAt, counts_in}
 use Rattle.ldso_cli.specs.End.{told_end}
 use Rattle.ldso_cli.specs.Played.{IsNotRun, last_line, run_cause}
-use Rattle.ldso_cli.specs.Threads.{ComesOnThreads, EndsOnThreads, HasEnds, IsUntold, Leaves, RunComes, RunsOnThreads, printed_of}
+use Rattle.ldso_cli.specs.Threads.{ComesOnThreads, EndsOnThreads, HasEnds, IsUntold, RunComes, RunLeaves, RunsOnThreads, printed_of}
 use Rattle.ldso_cli.specs.declared.answer.Answer.{Answer}
 use Rattle.ldso_cli.specs.declared.threads.Threaded.{Threaded}
 
@@ -83,7 +83,7 @@ module _ (setup : Setup) (before after : LibraryAt) (ended : Result RunEnd DlFau
   pub comes_on_threads : (ran : Result Ran StartFault) → IfOk ran (λ r. IsThreaded (run_of setup before.files) setup r.left r.trails)
       → IfErr ran (IsNotStarted (run_of setup before.files) setup)
       → ShowsInCounts (ArePathsAtStart setup.folders setup.program) (startup_refusal ran) before.faults after.faults before.misses after.misses
-      → ShowInCounts setup.folders (left_events ran) (counts_in before) (counts_in after) → Leaves ran ended left trails → ComesOnThreads setup before after ended left trails
+      → ShowInCounts setup.folders (left_events ran) (counts_in before) (counts_in after) → RunLeaves ran ended left trails → ComesOnThreads setup before after ended left trails
   comes_on_threads (Ok ran) is fails counts shows leaves = ran_comes ran is leaves shows
   comes_on_threads (Err (starts.Refused fault journal)) is fails counts shows leaves = refusal_comes fault journal.events fails leaves counts shows
   comes_on_threads (Err starts.Memory) is fails counts shows leaves = absurd leaves
@@ -92,7 +92,7 @@ module _ (setup : Setup) (before after : LibraryAt) (ended : Result RunEnd DlFau
 pub all_come : (setup : Setup) (before after : LibraryAt) (ran : Result Ran StartFault) (r : Result Threaded AllocError) → IfOk ran (λ x. IsThreaded (run_of setup before.files) setup x.left x.trails)
     → IfErr ran (IsNotStarted (run_of setup before.files) setup)
     → ShowsInCounts (ArePathsAtStart setup.folders setup.program) (startup_refusal ran) before.faults after.faults before.misses after.misses
-    → ShowInCounts setup.folders (left_events ran) (counts_in before) (counts_in after) → IfOk r (λ t. Leaves ran t.played.ended t.played.left t.trails)
+    → ShowInCounts setup.folders (left_events ran) (counts_in before) (counts_in after) → IfOk r (λ t. RunLeaves ran t.played.ended t.played.left t.trails)
     → IfOk r (λ t. ComesOnThreads setup before after t.played.ended t.played.left t.trails)
 all_come setup before after ran (Err e) is fails counts shows leaves = tt
 all_come setup before after ran (Ok t) is fails counts shows leaves =

@@ -50,8 +50,8 @@ pub record HasRun (setup : Setup) (items : List TurnItem) (files : Option (List 
 pub record HasRunOnThreads (setup : Setup) (files : Option (List File)) (left : RunRecord) (trails : Option KeeperView) : Type 0 where
   pub told : KeeperView
   pub trails_are : trails ≡ Some told
-  -- the journal is a whole legal history; each hart follows from its start to its end, by the table of turns; none of its events is left out; and its
-  -- trail says what the journal says
+  -- the journal is a whole legal history, which came round after round; each hart follows from its start to its end, by the table of turns; none of its
+  -- events is left out; and its trail says what the journal says
   pub is : IsThreaded (run_of setup files) setup left told
   -- each exchange of a slot of an object that is mapped at the end put there or found its one value, or no grant of it was made
   pub slots : SlotsEnd left.journal.events told.joined

@@ -64,10 +64,10 @@ pub record IsUntold (fault : DlFault) (journal : List Event) (ended : Result Run
   pub leaves : LeavesRefusal fault journal ended left
   pub none : trails ≡ None
 
-abbrev pub Leaves : Result Ran StartFault → Result RunEnd DlFault → RunRecord → Option KeeperView → Type 0
-Leaves (Ok ran) ended left trails = EndsOnThreads ran ended left trails
-Leaves (Err (starts.Refused fault journal)) ended left trails = IsUntold fault journal.events ended left trails
-Leaves (Err starts.Memory) ended left trails = ⊥
+abbrev pub RunLeaves : Result Ran StartFault → Result RunEnd DlFault → RunRecord → Option KeeperView → Type 0
+RunLeaves (Ok ran) ended left trails = EndsOnThreads ran ended left trails
+RunLeaves (Err (starts.Refused fault journal)) ended left trails = IsUntold fault journal.events ended left trails
+RunLeaves (Err starts.Memory) ended left trails = ⊥
 
 -- each hart of a run has an end, and they are few
 pub record HasEnds (ran : Ran) : Type 0 where

@@ -5,7 +5,7 @@ ghost use Rattle.history_calls.specs.Startup.{harts_of};
 ghost use Rattle.ldso_cli.specs.End.{told_end};
 ghost use Rattle.ldso_cli.specs.Outside.{library_at};
 ghost use Rattle.ldso_cli.specs.Played.{last_line, run_cause};
-ghost use Rattle.ldso_cli.specs.Threads.{ComesOnThreads, EndsOnThreads, HasEnds, Leaves, RunComes, printed_of};
+ghost use Rattle.ldso_cli.specs.Threads.{ComesOnThreads, EndsOnThreads, HasEnds, RunComes, RunLeaves, printed_of};
 ghost use Rattle.trace_text.specs.Lines.{IsSayable};
 
 use crate::answer::Answer;
@@ -53,7 +53,7 @@ fn over(ran: Ran) -> Threaded
 /// Want of memory.
 fn left_of(alloc: Global, ran: Result<Ran, StartFault>) -> Result<Threaded, AllocError>
     requires { IfOk ran HasEnds }
-    ensures { IfOk result (λ threaded. Leaves ran threaded.played.ended threaded.played.left threaded.trails) }
+    ensures { IfOk result (λ threaded. RunLeaves ran threaded.played.ended threaded.played.left threaded.trails) }
 {
     match ran {
         Ok(ran) => Ok(over(ran)),

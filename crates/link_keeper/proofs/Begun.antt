@@ -1,6 +1,6 @@
 -- The final destructors begin.
 use Rattle.std.proofs.Common.{◌≡◌, ℕ, ◌+◌, ◌<◌, ◌≤◌, ◌==◌, cond, eqb, eq-eqb, nat_le, leb-true, Bool, true, false, List, [], ◌∷◌, length, length-append, take, None, Some, IsTrue, refl, sym, ap, subst, ◌∙◌, arith}
-use Rattle.std.proofs.lemmas.Bool.{and_from, and_parts, eqb-true}
+use Rattle.std.proofs.lemmas.Bool.{and_from, and_parts, eqb-true, false≢true}
 use Rattle.std.proofs.lemmas.List.{take_all}
 use Rattle.history_event.specs.declared.event.Event.{Event}
 use Rattle.history_event.specs.declared.handed.HartEntry.{HartEntry}
@@ -23,6 +23,7 @@ use Rattle.history_calls.specs.Functions.{AreAddresses, destructors}
 use Rattle.hart_moves.specs.Moves.{all_finis}
 use Rattle.hart_moves.specs.Harts.{HartState}
 use Rattle.hart_moves.specs.Starting.{finalising_hart, starting_registers}
+use Rattle.hart_moves.specs.TurnEvents.Appends.{has_finals}
 use Rattle.hart_fits.specs.Finals.{EndsOnce, FinalsBeginFit}
 use Rattle.hart_fits.specs.Fits.{HartFits}
 use Rattle.hart_fits.specs.Lemmas.Owners.{owners_end}
@@ -112,6 +113,10 @@ module _ (running : RunningIsNotOver) (w : Setting) (begun : List Event) (k : Ke
     resolving_same [] = refl
     resolving_same (a ∷ more) = refl
 
+    runs_finals : (addresses : List ℕ) → has_finals (finalising_hart (starting_registers entry) code (record { object = starts.object; addresses = addresses }) b).frames ≡ true
+    runs_finals [] = refl
+    runs_finals (a ∷ more) = refl
+
     pub between_so : ((m : Machine) (journal : List Event) → Lawful m journal → ModulesAreTidy (after journal)) → ((m : Machine) (journal : List Event) → Lawful m journal → BeginsUntouched (after journal))
         → (d e : BlockTable) (g : ℕ) → g ≡ (after k.events).generation → e.entries ≡ (cond (d.generation == g) d.entries []) → e.generation ≡ g → before.lane.calling ≡ false → IsLane before.lane
         → known_of before.lane ≡ (row_of k before.number).issued → IsBetweenTurns w begun before b d → IsBetweenTurns w begun now c e
@@ -128,6 +133,7 @@ module _ (running : RunningIsNotOver) (w : Setting) (begun : List Event) (k : Ke
           current = λ on. current_of tidy begins w begun k now e view.kept (let low : now.number ≡ 0 = number in omega (arith, low))
               (ap (λ (h : HartView). known_of h.lane) hears.told ∙ issued ∙ ap (λ (n : ℕ). (row_of k n).issued) (sym (ap (λ (h : HartView). h.number) hears.told)))
               all fit (generation ∙ now_is);
+          reached = λ on calm. absurd (false≢true (sym calm ∙ ap (λ (x : HartState). has_finals x.frames) starts.begun ∙ runs_finals starts.addresses));
         }
 
   -- ---- it ends once more

@@ -35,7 +35,7 @@ use Rattle.link_keeper.specs.Attending.{Attends, NobodysCame}
 use Rattle.hart_linker.specs.Between.{BlocksFit, HasHeard}
 use Rattle.link_keeper.specs.Keeping.{KeepsState, KeepsView, WasOver}
 use Rattle.link_keeper.specs.Passing.{IsNext, PassesNext}
-use Rattle.hart_linker.specs.Serving.{EndsTurn, HasRun}
+use Rattle.hart_linker.specs.Serving.{EndsTurn, WasRunning}
 use Rattle.link_keeper.proofs.Ending.{IsPlain, alone_of, blocks_plain, event_plain, heard_on}
 use Rattle.link_keeper.proofs.Fitting.{fits_on}
 use Rattle.link_keeper.proofs.Lasting.{nobodys_finals}
@@ -184,7 +184,7 @@ ends_again stay quiet_kept w given state t k0 k l before h i id keeps heard same
 -- ---- a hart that runs
 
 module _ (others : OthersLeaveHart) (not_over : RunningIsNotOver) (may_end : FitsMayEnd) (w : Setting) (given : List Event) (state : LinkTable) (k : KeeperView) (before h : HartView) (id : ℕ)
-    (keeps : KeepsState w given state k) (heard : HasHeard w given before) (same : id ≡ before.number) (run : HasRun w before) (at : Attends k before h id) where
+    (keeps : KeepsState w given state k) (heard : HasHeard w given before) (same : id ≡ before.number) (run : WasRunning w before) (at : Attends k before h id) where
   fits : HartFits w k.events id run.before
   fits = fits_on others w given before.heard at.longer.0 k id run.before heard.legal keeps.view at.longer.1 at.none run.runs (subst (λ (n : ℕ). HartFits w before.heard n run.before) (sym same) run.fits)
 
@@ -212,7 +212,7 @@ pub end_within : (w : Setting) (given : List Event) (state : LinkTable) (k : Kee
 end_within w given state k id keeps low = subst (λ (m : Machine). id < m.harts) keeps.machine low
 
 pub ends : OthersLeaveHart → RunningIsNotOver → FitsMayEnd → EventsStay → QuietKept → (w : Setting) (given : List Event) (state t : LinkTable) (k l : KeeperView) (before h i : HartView) (id : ℕ) (reason : HartEnd)
-    (b c : HartState) → KeepsState w given state k → HasHeard w given before → id ≡ before.number → HasRun w before → before.lane.offer ≡ None → Attends k before h id → t ≡ appended state (Ended id reason)
+    (b c : HartState) → KeepsState w given state k → HasHeard w given before → id ≡ before.number → WasRunning w before → before.lane.offer ≡ None → Attends k before h id → t ≡ appended state (Ended id reason)
     → ((e : Event) (rest : List Event) → IsNext t k e rest → PassesNext id e k l h i) → c ≡ ended reason b → Ends w given t k l before i reason b c id
 ends others not_over may_end stay quiet_kept w given state t k l before h i id reason b c keeps heard same run idle at noted passes left =
     let events = ap (λ (x : LinkTable). x.events) noted in

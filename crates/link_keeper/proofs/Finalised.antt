@@ -91,6 +91,13 @@ finalise_of (Due.enter function frames) is = absurd (false≢true is)
 finalise_of (Due.complete purpose object rest below) is = absurd (false≢true is)
 finalise_of (Due.finalise code object) is = record { code = code; object = object; is = refl }
 
+-- it runs final destructors
+pub runs_finals : (s : State) (b : HartState) → is_finalising (due s b) ≡ true → has_finals b.frames ≡ true
+runs_finals s b last =
+    let d : IsFinalise (due s b) = finalise_of (due s b) last in
+    let from : IsFrom b (Due.finalise d.code d.object) = subst (IsFrom b) d.is (is_last s b last).from in
+    ap has_finals from.2.before
+
 -- ---- that it may take it
 
 module _ (finish : FinalsFinish) (pass : FinalsPass) (goes_on : FinalsGoOn) (w : Setting) (past : List Event) (h : ℕ) (b : HartState) (fits : HartFits w past h b) (code object : ℕ) (from : IsFrom b (Due.finalise code object)) where

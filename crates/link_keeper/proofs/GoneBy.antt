@@ -30,6 +30,8 @@ use Rattle.hart_moves.specs.Due.{due}
 use Rattle.hart_moves.specs.Follows.{HasNone, TurnsAt}
 use Rattle.hart_moves.specs.Harts.{HartState, Resolving}
 use Rattle.hart_moves.specs.Moves.{Did, Moves, settled_resolving}
+use Rattle.hart_moves.specs.TurnEvents.Appends.{has_finals}
+use Rattle.hart_moves.specs.TurnEvents.Laws.{FinalsStay}
 use Rattle.hart_moves.specs.Trails.{Beside, beside_of}
 use Rattle.hart_trails.specs.Trails.{Leaves, Reads}
 use Rattle.link_keeper.specs.Acting.{Acts, OpenNothing}
@@ -152,9 +154,9 @@ module _ (own_fit : OwnMovesFit) (tidy : (m : Machine) (journal : List Event) �
       let number : told.number ≡ id = number_is ∙ sym same in
       omega (arith, few, within, number)
 
-  pub quiet_between : (g : ℕ) → g ≡ (after k.events).generation → e.entries ≡ (cond (d.generation == g) d.entries []) → e.generation ≡ g → known_of before.lane ≡ (row_of k before.number).issued
+  pub quiet_between : FinalsStay → has_finals b.frames ≡ true → (g : ℕ) → g ≡ (after k.events).generation → e.entries ≡ (cond (d.generation == g) d.entries []) → e.generation ≡ g → known_of before.lane ≡ (row_of k before.number).issued
       → IsBetweenTurns w begun told c e
-  quiet_between g is entries generation issued =
+  quiet_between finals last g is entries generation issued =
       let early : d.generation ≤ (after told.heard).generation = early_on d before.heard hears.longer.0 told.heard hears.longer.1 between.early in
       let heard_is : (after told.heard).generation ≡ (after k.events).generation = ap (λ (es : List Event). (after es).generation) all in
       let fit = blocks_begun d e told g entries generation (omega (arith, early, heard_is, is)) (blocks_told w begun before told d hears between.blocks) in
@@ -168,6 +170,7 @@ module _ (own_fit : OwnMovesFit) (tidy : (m : Machine) (journal : List Event) �
         early = omega (arith, generation, is, heard_is);
         current = λ goes. current_of tidy begins w begun k told e view.kept low
             (ap (λ (h : HartView). known_of h.lane) hears.told ∙ issued ∙ ap (λ (n : ℕ). (row_of k n).issued) (sym number_is)) all fit (generation ∙ is);
+        reached = λ goes calm. absurd (false≢true (sym calm ∙ finals w k.events id b c (Did.quiet []) moves last goes));
       }
 
 -- ---- with events

@@ -125,4 +125,5 @@ module _ (w : Setting) (begun : List Event) (before told now : HartView) (hears 
     blocks = again.blocks d (blocks_told w begun before told d hears at.blocks);
     early = early_on d before.heard lacks_longer.0 now.heard lacks_longer.1 at.early;
     current = λ on. no_turn on;
+    reached = λ on. no_turn on;
   }

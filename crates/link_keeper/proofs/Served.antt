@@ -1,8 +1,8 @@
 -- A turn that asks, once it is handed over to its hart.
-use Rattle.std.proofs.Common.{◌≡◌, ⊎_elim, ℕ, zero, suc, ◌+◌, ◌<◌, ◌≤◌, ◌==◌, ◌&&◌, true, false, if◌then◌else◌, IsSome, List, [], ◌∷◌, ◌++◌, length, length-append, take, None, Some, refl, sym, ap, subst, ◌∙◌, append-nil, append_assoc, arith}
+use Rattle.std.proofs.Common.{◌≡◌, ⊎_elim, inr, ℕ, zero, suc, ◌+◌, ◌<◌, ◌≤◌, ◌==◌, ◌&&◌, true, false, if◌then◌else◌, IsSome, List, [], ◌∷◌, ◌++◌, length, length-append, take, None, Some, refl, sym, ap, subst, ◌∙◌, append-nil, append_assoc, arith}
 use Rattle.std.proofs.Math.Seq.{drop-append_seam, take-append_seam}
 use Rattle.std.specs.List.{Contains, slice_get}
-use Rattle.std.proofs.lemmas.List.Elements.{Contains-append_cases}
+use Rattle.std.proofs.lemmas.List.Elements.{Contains-append_cases, Contains-append_right}
 use Rattle.history_event.specs.declared.event.Event.{Event}
 use Rattle.word_rule.specs.declared.entry.Entry.{Entry}
 use Rattle.word_rule.specs.declared.view.HartView.{HartView}
@@ -15,7 +15,7 @@ use Rattle.history_state.specs.Laws.{ModulesAreTidy}
 use Rattle.history_state.specs.Legal.{Lawful, Legal}
 use Rattle.history_state.specs.Objects.{is_startup}
 use Rattle.history_state.specs.Lemmas.History.{legal_is_lawful}
-use Rattle.history_state.specs.Lemmas.Lists.{only_in}
+use Rattle.history_state.specs.Lemmas.Lists.{here, only_in}
 use Rattle.history_state.specs.Read.{BeginsUntouched}
 use Rattle.history_state.specs.Setting.{Machine, Setting}
 use Rattle.history_state.specs.Slots.{HasNoGrant}
@@ -245,4 +245,9 @@ module _ (own_fit : OwnMovesFit) (tidy : (m : Machine) (journal : List Event) �
     early = let its : now.generation ≡ (after l.events).generation = generation_now in
         let heard : (after i.heard).generation ≡ (after l.events).generation = ap (λ (es : List Event). (after es).generation) over.passed.heard in omega (arith, its, heard);
     current = λ goes. current_now;
+    reached = λ goes calm. inr (
+      first,
+      subst (λ (es : List Entry). Contains es first) (sym known) (Contains-append_right (known_of before.lane) (first ∷ over.passed.more) first (here first over.passed.more)),
+      over.generation ∙ sym generation_now,
+    );
   }

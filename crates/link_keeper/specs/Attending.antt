@@ -1,13 +1,13 @@
 -- A hart is told of all events and calls, and grants are settled: what comes before each turn under the lock. For the code of this crate alone.
-use Rattle.std.specs.Prelude.{◌≡◌, ℕ, ◌<◌, List, ◌++◌, length, None, Contains}
+use Rattle.std.specs.Prelude.{◌≡◌, ℕ, ◌<◌, List, ◌++◌, length}
 use Rattle.history_event.specs.declared.event.Event.{Event}
 use Rattle.word_rule.specs.declared.view.HartView.{HartView}
 use Rattle.word_rule.specs.declared.view.KeeperView.{KeeperView}
 use Rattle.word_rule.specs.Views.{BeginsWith, NoneAbove, readings_of, row_of}
 use Rattle.history_state.specs.After.{after}
 use Rattle.history_state.specs.Slots.{HasNoGrant}
-use Rattle.history_calls.specs.Laws.{hart_of}
 use Rattle.hart_moves.specs.Follows.{HasNone}
+use Rattle.hart_trails.specs.Owners.{AreNobodys}
 use Rattle.link_keeper.specs.Passing.{InStep, IsCalling, MayPass}
 use Rattle.link_keeper.specs.Settling.{IsFoundOpen}
 
@@ -15,7 +15,7 @@ use Rattle.link_keeper.specs.Settling.{IsFoundOpen}
 pub record NobodysCame (old new : List Event) : Type 0 where
   pub more : List Event
   pub are : new ≡ old ++ more
-  pub nobodys : (e : Event) → Contains more e → hart_of e ≡ None
+  pub nobodys : AreNobodys more
 
 -- it is known to call, and its grants are settled. No event of its own came since it heard of them last
 pub record Attends (k : KeeperView) (before h : HartView) (id : ℕ) : Type 0 where

@@ -15,9 +15,8 @@ use Rattle.word_rule.specs.Slots.{HasLost, HasWon, Rising}
 use Rattle.word_rule.specs.Views.{BeginsWith, exchanges_of}
 use Rattle.history_state.specs.Legal.{Legal, Whole}
 use Rattle.history_state.specs.Setting.{Setting}
-use Rattle.history_calls.specs.Laws.{hart_of}
 use Rattle.hart_moves.specs.Follows.{HasNone}
-use Rattle.hart_trails.specs.Owners.{AreOfHarts}
+use Rattle.hart_trails.specs.Owners.{AreNobodys, AreOfHarts}
 use Rattle.kept_words.specs.Kept.{IsFateEvent}
 use Rattle.kept_words.specs.Over.{IsFinished, TrailIsTrue}
 use Rattle.kept_words.specs.Staying.{IsGrantEvent, number_in}
@@ -68,7 +67,7 @@ pub data SettledUpTo (journal : List Event) : ℕ → List Event → Type 0 wher
 pub record RunIsOver (w : Setting) (begun before journal : List Event) (harts : List HartView) : Type 0 where
   pub more : List Event
   pub are : journal ≡ before ++ more
-  pub nobodys : (e : Event) → Contains more e → hart_of e ≡ None
+  pub nobodys : AreNobodys more
   pub in_order : SettledUpTo journal harts_at_most more
   pub legal : Legal w journal
   pub begins : BeginsWith journal begun

@@ -16,6 +16,7 @@ use Rattle.link_state.specs.Table.{LinkTable}
 use Rattle.world_turns.specs.Counts.{Counts, ShowInCounts}
 use Rattle.kept_words.specs.Kept.{AreKept}
 use Rattle.kept_words.specs.Staying.{number_in}
+use Rattle.link_keeper.specs.Rounds.{AreRounds}
 
 -- each grant whose fate the keeper doesn't know is an open one of its hart
 abbrev pub AreOpen : KeeperView → Type 0
@@ -42,19 +43,21 @@ pub record KeepsState (w : Setting) (begun : List Event) (state : LinkTable) (k 
   pub machine : w.machine ≡ machine_of state.harts
   pub same : k.events ≡ state.events
 
--- folders and files are those of the run, and the library's counts show each refusal since the seats were made: `first` is what it had counted then
-pub record IsKept (w : Setting) (begun : List Event) (first : Counts) (state : LinkTable) (k : KeeperView) (folders : List (List ℕ))
+-- folders and files are those of the run, and the library's counts show each refusal since the seats were made: `first` is what it had counted then.
+-- The events since then came round after round
+pub record LockKeeps (w : Setting) (begun : List Event) (first : Counts) (state : LinkTable) (k : KeeperView) (folders : List (List ℕ))
     (files : Option (List File)) (counts : Counts) : Type 0 where
   pub keeps : KeepsState w begun state k
   pub folders_are : w.folders ≡ folders
   pub files_are : w.files ≡ files
   pub shown : ShowInCounts w.folders (drop (length begun) k.events) first counts
+  pub rounds : AreRounds begun k.events k.opens
 
 -- what is behind the lock once it is closed
 pub record IsClosed (w : Setting) (begun : List Event) (first : Counts) (state : LinkTable) (k : KeeperView)
     (files : Option (List File)) (counts : Counts) : Type 0 where
   pub folders : List (List ℕ)
-  pub kept : IsKept w begun first state k folders files counts
+  pub kept : LockKeeps w begun first state k folders files counts
 
 -- ---- what leaves the library's counts as they are
 

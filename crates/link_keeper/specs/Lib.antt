@@ -9,5 +9,6 @@ pub mod Joining
 pub mod Keeping
 pub mod Passing
 pub mod Remaking
+pub mod Rounds
 pub mod Serving
 pub mod Settling

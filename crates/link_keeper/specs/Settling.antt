@@ -4,10 +4,10 @@ use Rattle.history_event.specs.declared.event.Event.{Event}
 use Rattle.word_rule.specs.declared.entry.Grant.{Grant}
 use Rattle.word_rule.specs.declared.view.KeeperView.{KeeperView}
 use Rattle.word_rule.specs.declared.view.Row.{Row}
-use Rattle.word_rule.specs.Layout.{harts_at_most}
 use Rattle.word_rule.specs.Views.{row_of}
+use Rattle.hart_trails.specs.Owners.{AreNobodys}
 use Rattle.link_keeper.specs.Finishing.{IsSettlingOf, SettledUpTo}
-use Rattle.history_calls.specs.Laws.{hart_of}
+use Rattle.link_keeper.specs.Rounds.{IsRound}
 
 -- a row whose grant isn't settled was found open, and its hart isn't known to call
 abbrev pub IsFoundOpen : Row → Type 0
@@ -18,7 +18,7 @@ IsFoundOpen r = (g : Grant) → r.pending ≡ Some g → (r.found_open ≡ true)
 pub record HasSettled (asked : ℕ) (k l : KeeperView) : Type 0 where
   pub more : List Event
   pub events : l.events ≡ k.events ++ more
-  pub nobodys : (e : Event) → Contains more e → hart_of e ≡ None
+  pub nobodys : AreNobodys more
   pub in_order : SettledUpTo l.events asked more
   pub harts : l.harts ≡ k.harts
   pub joined : l.joined ≡ k.joined
@@ -29,17 +29,14 @@ pub record HasSettled (asked : ℕ) (k l : KeeperView) : Type 0 where
   pub opened : l.opens ≡ k.opens ++ opens
   pub left_open : (m : ℕ) (g : Grant) → m < asked → (row_of l m).pending ≡ Some g → Contains opens m
 
--- what a turn under the lock brings: first grants are settled, in the order of their harts, and then come events of the turn's hart alone. Each grant of
--- another hart whose fate isn't known then was asked for in this turn, and its row found open
+-- a turn of this hart under the lock is a round behind what the keeper had counted
 pub record SettlesFirst (h : ℕ) (k l : KeeperView) : Type 0 where
   pub settled : List Event
   pub own : List Event
-  pub are : l.events ≡ k.events ++ (settled ++ own)
-  pub in_order : SettledUpTo l.events harts_at_most settled
-  pub of : (e : Event) → Contains own e → hart_of e ≡ Some h
-  pub opens : List ℕ
-  pub opened : l.opens ≡ k.opens ++ opens
-  pub left_open : (m : ℕ) (g : Grant) → m < harts_at_most → m ≢ h → (row_of l m).pending ≡ Some g → Contains opens m
+  pub events : l.events ≡ k.events ++ (settled ++ own)
+  pub asked : List ℕ
+  pub opened : l.opens ≡ k.opens ++ asked
+  pub round : IsRound k.events settled own h asked
 
 -- or nothing came
 abbrev pub SettlesOrRests : ℕ → KeeperView → KeeperView → Type 0
@@ -49,7 +46,7 @@ SettlesOrRests h k l = (l ≡ k) ⊎ SettlesFirst h k l
 pub record SettlesOne (id : ℕ) (k l : KeeperView) : Type 0 where
   pub more : List Event
   pub events : l.events ≡ k.events ++ more
-  pub nobodys : (e : Event) → Contains more e → hart_of e ≡ None
+  pub nobodys : AreNobodys more
   pub settles : (more ≡ []) ⊎ ((e : Event) × (more ≡ e ∷ []) × IsSettlingOf l.events id e)
   pub harts : l.harts ≡ k.harts
   pub joined : l.joined ≡ k.joined

@@ -7,7 +7,7 @@ ghost use Rattle.tls_blocks.specs.Blocks.{BlockTable};
 ghost use Rattle.hart_linker.specs.Between.{BlocksFit, HasHeard};
 ghost use Rattle.link_keeper.specs.Keeping.{KeepsState, OpensNothing};
 ghost use Rattle.link_keeper.specs.Settling.{SettlesFirst};
-ghost use Rattle.hart_linker.specs.Serving.{EndsTurn, HasRun};
+ghost use Rattle.hart_linker.specs.Serving.{EndsTurn, WasRunning};
 
 use crate::attending::attend;
 use crate::passing::pass_next;
@@ -34,7 +34,7 @@ pub(crate) fn end_hart<R: Wait, J: Opening>(
 )
     requires keeps { KeepsState J.setting J.journal state.old keeper.old }
     requires heard { HasHeard J.setting J.journal seat.old }
-    requires run { HasRun J.setting seat.old }
+    requires run { WasRunning J.setting seat.old }
     requires calling { seat.old.lane.calling ≡ false }
     ensures keeps { KeepsState J.setting J.journal state.new keeper.new }
     ensures turn { EndsTurn J.setting seat.old seat.new reason hart.old.hart hart.new.hart }

@@ -28,6 +28,7 @@ use crate::handing::pass;
 use crate::hearing::hear;
 use hart_fits::{harts_fit, own_moves_fit};
 use hart_linker::{HartBlocks, Opening};
+use hart_moves::turns_append;
 use hart_seat::{Due, LinkedHart, Purpose};
 use history_event::HartEnd;
 use history_journal::accepted_object;
@@ -84,6 +85,7 @@ pub(crate) fn finalise_hart<R: Wait, J: Opening>(
 {
     harts_fit();
     own_moves_fit();
+    turns_append();
     finals_may_pass();
     finals_go_on();
     settling_keeps_finals();

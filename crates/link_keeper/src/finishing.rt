@@ -11,6 +11,7 @@ ghost use Rattle.kept_words.specs.Over.{IsOver};
 ghost use Rattle.link_keeper.specs.Finishing.{RunIsOver, knows};
 ghost use Rattle.link_keeper.specs.Joining.{HasEndedThere, HaveTakenAll, IsFront, SettlesEnded, joins};
 ghost use Rattle.link_keeper.specs.Keeping.{KeepsState, KeepsView};
+ghost use Rattle.link_keeper.specs.Rounds.{AreRounds};
 ghost use Rattle.link_keeper.specs.Settling.{SettlesOne};
 
 use crate::hearing::hear;
@@ -38,15 +39,18 @@ pub fn finish<J: Opening>(
     requires numbers { (i : ℕ) (seat : HartView) → slice_get seats.items i ≡ Some seat → seat.number ≡ i }
     requires heard { All (HasHeard J.setting J.journal) seats.items }
     requires calling { All (λ seat. seat.lane.calling ≡ false) seats.items }
+    requires rounds { AreRounds J.journal keeper.old.events keeper.old.opens }
     ensures over { RunIsOver J.setting J.journal keeper.old.events keeper.new.events seats.items }
     ensures keeps { KeepsView J.setting J.journal keeper.new }
     ensures known { IsOver keeper.new }
     ensures state { state.new.events ≡ keeper.new.events }
     ensures joined { keeper.new.joined ≡ map (knows keeper.old.events) seats.items }
+    ensures rounds { AreRounds J.journal keeper.new.events keeper.new.opens }
 {
     records_stay();
     run_is_over();
     accepted_object();
+    slots_stand();
     let harts = seats.len() as u32;
     join_all(memory, keeper, seats);
     settle_ended(memory, keeper, state);

@@ -12,9 +12,9 @@ ghost use Rattle.history_event.specs.declared.hart_end.HartEnd.TheVariants.{Exit
 ghost use Rattle.history_state.specs.After.{after};
 ghost use Rattle.history_state.specs.Owed.{times_ended};
 ghost use Rattle.history_state.specs.State.{State};
-ghost use Rattle.link_keeper.specs.Keeping.{IsClosed, IsKept};
+ghost use Rattle.link_keeper.specs.Keeping.{IsClosed, LockKeeps};
 ghost use Rattle.link_keeper.specs.Settling.{SettlesFirst, SettlesOrRests};
-ghost use Rattle.hart_linker.specs.Serving.{EndsTurn, HasRun, ServesTurn, is_asking, is_finalising};
+ghost use Rattle.hart_linker.specs.Serving.{EndsTurn, ServesTurn, WasRunning, is_asking, is_finalising};
 ghost use Rattle.word_rule.specs.Views.{BeginsWith};
 
 use crate::beginning::begin_finals;
@@ -46,13 +46,13 @@ pub(crate) struct Locked<J: Opening, L: Library + Drop> {
 
 impl<J: Opening, L: Library + Drop> Model for Locked<J, L> {
     ghost use Rattle.word_rule.specs.declared.view.KeeperView.{KeeperView};
-    ghost use Rattle.link_keeper.specs.Keeping.{IsKept};
+    ghost use Rattle.link_keeper.specs.Keeping.{LockKeeps};
 
     ghost Value = { KeeperView };
 
     ghost view = { λ s. s.seat };
 
-    ghost invariant = { λ s. IsKept J.setting J.journal J.counts s.state s.seat s.folders (L.files s.library)
+    ghost invariant = { λ s. LockKeeps J.setting J.journal J.counts s.state s.seat s.folders (L.files s.library)
         (record { faults = L.faults s.library; misses = L.misses s.library }) };
 }
 
@@ -128,7 +128,7 @@ impl<J: Opening, L: Library + Drop> Locked<J, L> {
         reason: HartEnd,
     )
         requires heard { HasHeard J.setting J.journal seat.old }
-        requires run { HasRun J.setting seat.old }
+        requires run { WasRunning J.setting seat.old }
         requires calling { seat.old.lane.calling ≡ false }
         ensures settled { SettlesFirst seat.old.number self.old self.new }
         ensures turn { EndsTurn J.setting seat.old seat.new reason hart.old.hart hart.new.hart }
@@ -217,7 +217,7 @@ impl<J: Opening, L: Library + Drop> Keeper<J, L> {
         folders: Names,
         library: L,
     ) -> Self
-        requires { IsKept J.setting J.journal J.counts state seat folders (L.files library)
+        requires { LockKeeps J.setting J.journal J.counts state seat folders (L.files library)
             (record { faults = L.faults library; misses = L.misses library }) }
     {
         Keeper {

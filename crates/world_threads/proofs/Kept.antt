@@ -12,11 +12,12 @@ use Rattle.history_calls.specs.Startup.{Starts, harts_of}
 use Rattle.history_journal.specs.Following.{machine_of}
 use Rattle.history_state.specs.After.{after}
 use Rattle.history_state.specs.Setting.{Setting, have_exited}
-use Rattle.link_keeper.specs.Keeping.{FirstGoesOn, IsKept}
+use Rattle.link_keeper.specs.Keeping.{FirstGoesOn, LockKeeps}
+use Rattle.link_keeper.specs.Rounds.{AreRounds}
 use Rattle.link_state.specs.Table.{LinkTable}
 use Rattle.word_rule.specs.declared.view.KeeperView.{KeeperView}
 use Rattle.word_rule.specs.declared.view.Row.{Row}
-use Rattle.world_threads.specs.Setting.{HasStarted}
+use Rattle.world_threads.specs.Setting.{IsSetUp}
 use Rattle.world_threads.proofs.Finished.{ended_in, ends_grow, exited_many}
 use Rattle.world_threads.proofs.Started.{machine_harts, none_ended}
 use Rattle.world_turns.specs.Counts.{Counts, NothingShows, ShowInCounts}
@@ -38,8 +39,8 @@ module _ (w : Setting) (setup : Setup) (begun : List Event) (started : Started) 
   first_goes_on past e rest are over =
       absurd (never_over over.0 (over.1 ++ e ∷ rest) (are ∙ ap (λ (es : List Event). es ++ e ∷ rest) over.2 ∙ append_assoc over.0 over.1 (e ∷ rest)) over.3)
 
-  pub is_kept : NothingShows → (first : Counts) (state : LinkTable) (k : KeeperView) (folders : List (List ℕ)) (files : Option (List File)) → HasStarted w begun k
-      → begun ≡ state.events → w.machine ≡ machine_of state.harts → w.folders ≡ folders → w.files ≡ files → IsKept w begun first state k folders files first
+  pub is_kept : NothingShows → (first : Counts) (state : LinkTable) (k : KeeperView) (folders : List (List ℕ)) (files : Option (List File)) → IsSetUp w begun k
+      → begun ≡ state.events → w.machine ≡ machine_of state.harts → w.folders ≡ folders → w.files ≡ files → LockKeeps w begun first state k folders files first
   is_kept nothing first state k folders files at same machine folders_are files_are = record {
     keeps = record {
       view = record {
@@ -53,4 +54,5 @@ module _ (w : Setting) (setup : Setup) (begun : List Event) (started : Started) 
     folders_are = folders_are;
     files_are = files_are;
     shown = subst (λ (es : List Event). ShowInCounts w.folders es first first) (sym (ap (drop (length begun)) at.events ∙ drop_all (length begun) begun (omega arith))) (nothing w.folders first);
+    rounds = subst (λ (es : List Event). AreRounds begun es k.opens) (sym at.events) (AreRounds.none_yet k.opens);
   }

@@ -9,7 +9,7 @@ use Rattle.word_installs.specs.Starting.{IsFresh, IsStartup, StartupKept}
 use Rattle.word_memory.specs.WordSeats.Making.{IsMade}
 use Rattle.word_rule.specs.declared.view.KeeperView.{KeeperView}
 use Rattle.word_rule.specs.Views.{IsLong, row_of}
-use Rattle.world_threads.specs.Setting.{HasStarted}
+use Rattle.world_threads.specs.Setting.{IsSetUp}
 
 -- a new memory whose events are counted
 pub fresh_at : (w : Setting) (begun : List Event) (harts : ℕ) (k l : KeeperView) → IsMade k 512 harts → w.machine.harts ≡ harts → l ≡ record k { events = begun } → IsFresh w begun l
@@ -25,9 +25,9 @@ pub low_generation : (harts n : ℕ) (begun : List Event) (k l : KeeperView) →
 low_generation harts n begun k l made is = subst (λ (g : ℕ). g ≤ n) (sym (ap (λ (v : KeeperView). v.generation) is ∙ made.no_modules)) (omega arith)
 
 -- and once its objects are installed
-pub has_started : StartupKept → (w : Setting) (begun : List Event) (installs : Installs) (k l : KeeperView) → IsStartup w begun installs → IsFresh w begun k → k.joined ≡ [] → IsLong l
-    → IsInstalled installs k l → l.generation ≡ (after begun).generation → HasStarted w begun l
-has_started kept w begun installs k l start fresh none long installed generation = record {
+pub is_set_up : StartupKept → (w : Setting) (begun : List Event) (installs : Installs) (k l : KeeperView) → IsStartup w begun installs → IsFresh w begun k → k.joined ≡ [] → IsLong l
+    → IsInstalled installs k l → l.generation ≡ (after begun).generation → IsSetUp w begun l
+is_set_up kept w begun installs k l start fresh none long installed generation = record {
   kept = kept w begun installs k l start fresh long installed generation;
   events = ap (λ (v : KeeperView). v.events) installed.only ∙ fresh.events;
   rows = λ m. ap (λ (v : KeeperView). row_of v m) installed.only ∙ fresh.rows m;

@@ -30,12 +30,15 @@ use Rattle.hart_moves.specs.TurnEvents.Laws.{TurnsAppend}
 use Rattle.hart_threads.specs.Constructed.{GoesOn}
 use Rattle.hart_threads.specs.Laws.{WaysStay}
 use Rattle.hart_trails.specs.Ends.{EndIsLast, StartIsFresh}
+use Rattle.hart_trails.specs.Fuel.{FuelBounds}
 use Rattle.hart_trails.specs.Laws.{EndsFollow, MarksFollow}
+use Rattle.hart_trails.specs.Owners.{AreNobodys}
 use Rattle.hart_trails.specs.Trails.{LeavesToItsEnd}
 use Rattle.kept_words.specs.Kept.{AreKept}
 use Rattle.kept_words.specs.Over.{IsFinished, IsOver}
 use Rattle.link_keeper.specs.Finishing.{IsExchangeOf, RunIsOver, TrailIsClosed, knows}
 use Rattle.link_keeper.specs.Keeping.{FirstGoesOn}
+use Rattle.link_keeper.specs.Rounds.{AreRounds}
 use Rattle.trace_text.specs.RunTexts.Ends.{last_end}
 use Rattle.trace_text.specs.declared.run_texts.record.RunRecord.{RunRecord}
 use Rattle.word_rule.specs.declared.view.HartView.{HartView}
@@ -126,6 +129,7 @@ pub record Laws : Type 0 where
   pub running : RunningIsNotOver
   pub start : RunJournalsStart
   pub grow : RunJournalsGrow
+  pub fuel : FuelBounds
 
 -- what is known where the run is over
 pub record IsOverAt (w : Setting) (setup : Setup) (past : List Event) (started : Started) (before journal : List Event) (ends : List HartEnd) (seats : List HartView) : Type 0 where
@@ -145,7 +149,7 @@ module _ (laws : Laws) (w : Setting) (setup : Setup) (past : List Event) (starte
       (x.over.trails h j at).none (length j.heard + place.0) e (omega arith) within got own
 
   -- behind what the first one has heard all is nobody's
-  nobodys : (first : HartView) → slice_get seats 0 ≡ Some first → (rest : List Event) → journal ≡ first.heard ++ rest → (e : Event) → Contains rest e → hart_of e ≡ None
+  nobodys : (first : HartView) → slice_get seats 0 ≡ Some first → (rest : List Event) → journal ≡ first.heard ++ rest → AreNobodys rest
   nobodys first at rest are e there = by (hart_of e) refl
     where
       of_none : (m : ℕ) → hart_of e ≡ Some m → ⊥
@@ -176,7 +180,7 @@ module _ (laws : Laws) (w : Setting) (setup : Setup) (past : List Event) (starte
     pub of : WayOf w setup past x.run.alone started x.run.constructed h reason j
     of = x.run.ways h reason j at_end at
 
-    still : h ≡ 0 → (e : Event) → Contains closed.longer.0 e → hart_of e ≡ None
+    still : h ≡ 0 → AreNobodys closed.longer.0
     still zeroth = nobodys j (subst (λ (n : ℕ). slice_get seats n ≡ Some j) zeroth at) closed.longer.0 closed.longer.1
 
     stays : (start : HartStart) (trail : List TrailItem) → LeavesToItsEnd w j.heard start h reason trail → LeavesToItsEnd w journal start h reason trail
@@ -227,6 +231,7 @@ module _ (laws : Laws) (w : Setting) (setup : Setup) (past : List Event) (starte
         kept = closed.kept;
       };
       once = laws.marks w journal of.start h reason j.trail way_on closed.kept;
+      few = laws.fuel w journal setup.fuel (set_off_behind past x.run.alone h) started of.start h reason j.trail of.sets_off way_on;
     }
 
   -- the end that it leads to is the last one
@@ -322,8 +327,9 @@ module _ (laws : Laws) (w : Setting) (setup : Setup) (past : List Event) (starte
   }
 
   pub threaded : (left : RunRecord) (trails : KeeperView) → left.journal.events ≡ journal → left.ends ≡ ends → trails.events ≡ journal
-      → trails.joined ≡ map (knows before) seats → AreKept w past trails → IsOver trails → Starts w setup past started → IsThreaded w setup left trails
-  threaded left trails events_are ends_are counted joined kept known starts = record {
+      → trails.joined ≡ map (knows before) seats → AreKept w past trails → IsOver trails → AreRounds past trails.events trails.opens → Starts w setup past started
+      → IsThreaded w setup left trails
+  threaded left trails events_are ends_are counted joined kept known rounds starts = record {
     by = by_of starts left.journal.events events_are;
     alone = x.run.alone;
     more = behind_alone.0;
@@ -334,6 +340,7 @@ module _ (laws : Laws) (w : Setting) (setup : Setup) (past : List Event) (starte
     counted = counted ∙ sym events_are;
     kept = kept;
     over = known;
+    rounds = subst (λ (es : List Event). AreRounds past es trails.opens) (counted ∙ sym events_are) rounds;
     last = record {
       all = ap length ends_are ∙ x.run.all_end;
       each = λ h reason at.

@@ -1,5 +1,5 @@
 -- Each hart may be run as startup sets it off.
-use Rattle.std.proofs.Common.{◌≡◌, inr, ℕ, zero, suc, ◌≤◌, ◌<◌, false, List, [], ◌∷◌, length, map, Some, None, refl, sym, ap, subst, ◌∙◌, append-nil, arith}
+use Rattle.std.proofs.Common.{◌≡◌, inl, inr, ℕ, zero, suc, ◌≤◌, ◌<◌, false, List, [], ◌∷◌, length, map, Some, None, refl, sym, ap, subst, ◌∙◌, append-nil, arith}
 use Rattle.std.specs.List.{Contains, slice_get}
 use Rattle.std.proofs.lemmas.List.{take_all}
 use Rattle.std.proofs.lemmas.Option.{none-some}
@@ -97,6 +97,7 @@ module _ (w : Setting) (setup : Setup) (past : List Event) (started : Started) (
         current = inr refl;
         are = λ number block e. absurd (none-some block (sym (ap (λ es. block_at es number) none.entries) ∙ e));
       };
+      reached = λ runs calm. inl refl;
     };
     calm = λ reason e. refl;
   }

@@ -24,10 +24,11 @@ use Rattle.hart_linker.specs.Between.{HasHeard}
 use Rattle.hart_moves.specs.Harts.{HartState}
 use Rattle.hart_moves.specs.Starting.{HartStart, starting_harts, starting_registers}
 use Rattle.hart_threads.specs.Constructed.{GoesOn, IsConstructed}
-use Rattle.hart_threads.specs.Ends.{IsAtStart, IsNewAt, IsThrough, RanBehind, RanFirst, RanWhole}
+use Rattle.hart_threads.specs.Ends.{IsNewAt, IsThrough, IsToldOf, RanFirst, RanWhole}
 use Rattle.hart_threads.specs.Laws.{OthersRunWhole}
-use Rattle.hart_threads.specs.Run.{IsReady, IsUnrun}
+use Rattle.hart_threads.specs.Run.{IsReady, IsUnrun, RunsToEnd}
 use Rattle.hart_threads.specs.Turns.{RunsBy}
+use Rattle.hart_trails.specs.Ends.{IsFresh}
 use Rattle.hart_trails.specs.Trails.{FollowsBy, LeavesToItsEnd}
 use Rattle.tls_blocks.specs.Blocks.{BlockTable}
 use Rattle.word_memory.specs.WordSeats.Making.{new_harts}
@@ -106,6 +107,12 @@ count_of seat hart blocks have w setup past started entry old off =
     sym (length-map old seat) ∙ ap length off.are.seats_are ∙ length-map (new_harts (length started.entries)) (hears past) ∙ new_length (length started.entries)
     ∙ have w setup past started off.starts ∙ sym (machine_harts w setup past started off.starts)
 
+-- another than the first was told of these events before its first turn, none of which is its own, and ran to its end
+pub record RanBehind (w : Setting) (begun alone : List Event) (before now : HartView) (b c : HartState) (kept : BlockTable) : Type 0 where
+  pub told : HartView
+  pub is_told : IsToldOf w begun alone before told
+  pub runs : RunsToEnd w begun told now b c kept
+
 -- ---- each hart, as it was set off
 
 module _ {X : Type 0} (seat : X → HartView) (hart : X → HartState) (blocks : X → BlockTable) (legal : StartsLegal) (owners : StartHasOwners) (fits : StartFits) (have : HartsHaveEntries)
@@ -171,19 +178,15 @@ module _ {X : Type 0} (seat : X → HartView) (hart : X → HartState) (blocks :
       subst (λ (y : X). IsUnrun (seat y) (hart y)) (sym (get_or_from_slice_get old k x.0 d x.1))
       (record { runs = new.runs; idle = new.idle; none_known = ap (λ (j : HartView). known_of j.lane) (seat_is k x.0 x.1) })
 
-  pub at_start : (d : X) → 0 < length old → IsAtStart (hart (get_or old 0 d))
-  at_start d low =
+  pub fresh_at : (d : X) → 0 < length old → IsFresh (hart (get_or old 0 d))
+  fresh_at d low =
       let x = element_at old 0 low in
       let new = all_are setup.fuel 0 started.functions started.entries (hart x.0) (hart_at 0 x.0 x.1) in
-      subst (λ (y : X). IsAtStart (hart y)) (sym (get_or_from_slice_get old 0 x.0 d x.1)) (record { runs = new.runs; no_finals = new.no_finals })
+      subst (λ (y : X). IsFresh (hart y)) (sym (get_or_from_slice_get old 0 x.0 d x.1)) (record { runs = new.runs; no_finals = new.no_finals })
 
   -- ---- and once it has run
 
-  module _ (others_whole : OthersRunWhole) (new : List X) (long : length new ≡ length old) (first : HartEnd) (ends : List HartEnd)
-      (first_ran : (d : X) (begins : HartStart) (begun : List TrailItem) → begins.registers ≡ starting_registers entry → begins.from ≤ length (seat (get_or old 0 d)).heard
-      → IsNewAt begins (seat (get_or old 0 d)) → RunsBy w begins.from begins.hart begun (seat (get_or old 0 d)) (hart (get_or old 0 d)) → RanWhole w begins begun (seat (get_or new 0 d)) first)
-      (through : (d : X) → IsThrough w past (seat (get_or old 0 d)) (seat (get_or new 0 d)))
-      (alone : List Event)
+  module _ (others_whole : OthersRunWhole) (new : List X) (long : length new ≡ length old) (first : HartEnd) (ends : List HartEnd) (alone : List Event)
       (first_apart : (d : X) → RanFirst w past alone (starting_registers entry) (seat (get_or old 0 d)) (seat (get_or new 0 d)) (hart (get_or old 0 d)) first)
       (others_behind : (i : ℕ) (d : X) → 0 < i → i < length old → RanBehind w past alone (seat (get_or old i d)) (seat (get_or new i d)) (hart (get_or old i d)) (hart (get_or new i d)) (blocks (get_or new i d)))
       (fronts : (i : ℕ) (d : X) → 0 < i → i < length old → BeginsWith (seat (get_or new 0 d)).heard (seat (get_or new i d)).heard)
@@ -196,7 +199,7 @@ module _ {X : Type 0} (seat : X → HartView) (hart : X → HartState) (blocks :
     through_at : (x y : X) → slice_get old 0 ≡ Some x → slice_get new 0 ≡ Some y → IsThrough w past (seat x) (seat y)
     through_at x y at now =
         subst (λ (z : X). IsThrough w past (seat z) (seat y)) (get_or_from_slice_get old 0 x x at)
-        (subst (λ (z : X). IsThrough w past (seat (get_or old 0 x)) (seat z)) (get_or_from_slice_get new 0 y x now) (through x))
+        (subst (λ (z : X). IsThrough w past (seat (get_or old 0 x)) (seat z)) (get_or_from_slice_get new 0 y x now) (first_apart x).through)
 
     ran_at : (h : ℕ) (x y : X) → 0 < h → slice_get old h ≡ Some x → slice_get new h ≡ Some y → RanBehind w past alone (seat x) (seat y) (hart x) (hart y) (blocks y)
     ran_at h x y behind at now =
@@ -233,7 +236,7 @@ module _ {X : Type 0} (seat : X → HartView) (hart : X → HartState) (blocks :
     alone_own e (suc h) there own =
         let place = in_at alone e there in
         let stands : slice_get (past ++ alone) (length past + place.0) ≡ Some e = got_behind past alone place.0 e place.1 in
-        let first_told : IsThrough w past (seat (get_or old 0 zeroth.0)) (seat (get_or new 0 zeroth.0)) = through zeroth.0 in
+        let first_told : IsThrough w past (seat (get_or old 0 zeroth.0)) (seat (get_or new 0 zeroth.0)) = (first_apart zeroth.0).through in
         let first_heard : (seat (get_or new 0 zeroth.0)).heard ≡ (past ++ alone) ++ apart.further.0 = apart.further.1 ∙ ap (λ (es : List Event). es ++ apart.further.0) apart.heard in
         let less : suc h < w.machine.harts = first_told.heard.own e (suc h) (subst (λ (es : List Event). Contains es e) (sym first_heard)
         (Contains-append_left (past ++ alone) apart.further.0 e (Contains-append_right past alone e there))) own in
@@ -307,7 +310,7 @@ module _ {X : Type 0} (seat : X → HartView) (hart : X → HartState) (blocks :
         ap starting_registers (same_some (entry_of setup.fuel 0 started.functions started.entries (hart x) (hart_at 0 x at)).0 entry
         (sym (entry_of setup.fuel 0 started.functions started.entries (hart x) (hart_at 0 x at)).1 ∙ off.entry_is)) in
         subst (λ (z : X). RanWhole w (start_at 0 x at) [] (seat z) first) (get_or_from_slice_get new 0 y x now)
-        (first_ran x (start_at 0 x at) [] registers
+        ((first_apart x).whole (start_at 0 x at) [] registers
         (subst (λ (z : X). (start_at 0 x at).from ≤ length (seat z).heard) (sym same) (from_low 0 x at))
         (subst (λ (z : X). IsNewAt (start_at 0 x at) (seat z)) (sym same) (is_new 0 x at))
         (subst (λ (z : X). RunsBy w (start_at 0 x at).from (start_at 0 x at).hart [] (seat z) (hart z)) (sym same) (by 0 x at)))

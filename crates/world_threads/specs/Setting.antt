@@ -14,7 +14,7 @@ use Rattle.word_rule.specs.declared.view.KeeperView.{KeeperView}
 use Rattle.word_rule.specs.Views.{first_hart, no_row, row_of}
 
 -- the keeper's view behind startup: nothing was handed to a hart, and none was joined
-pub record HasStarted (w : Setting) (begun : List Event) (k : KeeperView) : Type 0 where
+pub record IsSetUp (w : Setting) (begun : List Event) (k : KeeperView) : Type 0 where
   pub kept : AreKept w begun k
   pub events : k.events ≡ begun
   pub rows : (m : ℕ) → row_of k m ≡ no_row

@@ -1,5 +1,5 @@
 -- What a run on threads leaves. For whoever prints it, and for whoever judges its harts' trails.
-use Rattle.std.specs.Prelude.{◌≡◌, ℕ, zero, suc, List, [], ◌++◌, length, Some, Result, Ok, Err, Contains}
+use Rattle.std.specs.Prelude.{◌≡◌, ℕ, zero, suc, ◌+◌, ◌≤◌, List, [], ◌++◌, length, Some, Result, Ok, Err, Contains}
 use Rattle.std.specs.List.{slice_get}
 use Rattle.history_event.specs.declared.event.Event.{Event}
 use Rattle.history_event.specs.declared.hart_end.HartEnd.{HartEnd}
@@ -13,10 +13,12 @@ use Rattle.history_state.specs.Legal.{Legal, Whole}
 use Rattle.history_state.specs.Setting.{Setting}
 use Rattle.hart_moves.specs.Starting.{HartStart, IsStartOf}
 use Rattle.hart_threads.specs.Constructed.{GoesOn, IsConstructed}
+use Rattle.hart_trails.specs.Fuel.{turns_of}
 use Rattle.hart_trails.specs.Trails.{LeavesToItsEnd}
 use Rattle.kept_words.specs.Kept.{AreKept, IsFateEvent}
 use Rattle.kept_words.specs.Over.{IsOver}
 use Rattle.link_keeper.specs.Finishing.{IsExchangeOf, TrailIsClosed}
+use Rattle.link_keeper.specs.Rounds.{AreRounds}
 use Rattle.trace_text.specs.RunTexts.Ends.{AreLastEnds}
 use Rattle.trace_text.specs.declared.run_texts.record.RunRecord.{RunRecord}
 use Rattle.word_rule.specs.Generations.{MarksOnce}
@@ -47,6 +49,8 @@ pub record HartRan (w : Setting) (setup : Setup) (past alone : List Event) (star
   pub says : TrailIsClosed w past journal h hart
   -- and no block is answered twice without an event, of a module at a generation
   pub once : MarksOnce [] hart.trail
+  -- no more turns led there than its fuel and three: a slot that it was granted in the last one is bound behind that, and then it ends
+  pub few : length (turns_of way) ≤ setup.fuel + 3
 
 -- the events of a run: of one that is over, or of one that is refused, up to the refusal
 abbrev pub left_events : Result Ran StartFault → List Event
@@ -72,6 +76,9 @@ pub record IsThreaded (w : Setting) (setup : Setup) (left : RunRecord) (trails :
   pub kept : AreKept w by.startup trails
   -- what became of each grant is known, and what was seen of a slot is the value of the one that was bound
   pub over : IsOver trails
+  -- behind startup they came round after round, each a turn of one hart at the linker: grants are settled first, in the order of their harts, and whose
+  -- grant is left open was asked for in that very turn
+  pub rounds : AreRounds by.startup left.journal.events trails.opens
   -- each hart has an end, which is the last one that the journal has of it
   pub last : AreLastEnds w.machine.harts (after left.journal.events).endings left.ends
   -- and a trail that leads there

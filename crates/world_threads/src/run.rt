@@ -13,12 +13,13 @@ ghost use Rattle.history_state.specs.After.{after};
 ghost use Rattle.history_state.specs.Objects.{is_startup};
 ghost use Rattle.link_keeper.specs.Attending.{NobodysCame};
 ghost use Rattle.link_keeper.specs.Keeping.{KeepsState};
+ghost use Rattle.link_keeper.specs.Rounds.{AreRounds};
 ghost use Rattle.link_open_plan.specs.Startup.{run_of};
 ghost use Rattle.link_startup.specs.Startup.{IsNotStarted, StartsWhole, startup_refusal};
 ghost use Rattle.word_rule.specs.Views.{BeginsWith};
 ghost use Rattle.world_answers.specs.GuestsPart.Counting.{Rise, counts_at};
 ghost use Rattle.world_threads.specs.Running.{ComesOf, HaveRun, IsNamed, SetsOff};
-ghost use Rattle.world_threads.specs.Setting.{AreSetOff, HasStarted};
+ghost use Rattle.world_threads.specs.Setting.{AreSetOff, IsSetUp};
 ghost use Rattle.world_threads.specs.Threaded.{IsThreaded, left_events};
 ghost use Rattle.world_turns.specs.Counts.{ShowInCounts};
 
@@ -28,8 +29,8 @@ use crate::setting_up::{starting_memory, starting_runs};
 use hart_fits::{events_have_owners, harts_fit, running_is_not_over};
 use hart_linker::{Linker, Opening};
 use hart_moves::{turns_append, turns_are_counted};
-use hart_threads::{HartRun, run_harts, ways_are_whole};
-use hart_trails::{blocks_are_asked_once, trails_end, trails_follow};
+use hart_threads::{HartRun, run_harts, start_harts, ways_are_whole};
+use hart_trails::{blocks_are_asked_once, fuel_bounds_turns, trails_end, trails_follow};
 use history_calls::{Setup, StartFault, Started, run_journals_grow, served_calls_are_legal};
 use history_event::{Ends, HartEnd, HartEntry};
 use history_journal::accepted_object;
@@ -190,7 +191,7 @@ fn set_up<J: Opening>(
     requires accepts { AcceptsOnly J.setting.machine }
     requires harts { state.now.harts ≡ harts_of setup.now }
     requires over { is_startup (after state.now.events) ≡ false }
-    ensures keeper { IfOk result (λ ready. HasStarted J.setting state.now.events ready.keeper) }
+    ensures keeper { IfOk result (λ ready. IsSetUp J.setting state.now.events ready.keeper) }
     ensures runs { IfOk result (λ ready. AreSetOff state.now.events setup.now.fuel started.functions started.entries
         (map (λ r. r.seat) ready.runs.items) (map (λ r. r.hart.hart) ready.runs.items) (map (λ r. r.blocks) ready.runs.items)) }
     ensures ends { IfOk result (λ ready. (ready.ends.items ≡ []) × (harts_of setup.now ≤ vec_capacity ready.ends)) }
@@ -242,7 +243,7 @@ fn run_ready<J: Opening + Send + Sync, R: Threads + Wait + Sync, L: Library + Se
     requires machine { J.setting.machine ≡ machine_of state.harts }
     requires library { (J.setting.files ≡ L.files library) × (J.counts ≡ counts_at L.faults L.misses library) }
     requires folders { J.setting.folders ≡ ready.folders }
-    requires keeper { HasStarted J.setting J.journal ready.keeper }
+    requires keeper { IsSetUp J.setting J.journal ready.keeper }
     requires ends { (ready.ends.items ≡ []) × (state.harts ≤ vec_capacity ready.ends) }
     requires seats { (ready.seats.items ≡ []) × (state.harts ≤ vec_capacity ready.seats) }
     requires set_off { (setup : setup_value) × (started : started_value) × SetsOff J.setting setup J.journal started ready.entry
@@ -297,6 +298,7 @@ fn run_all<J: Opening + Send + Sync, R: Threads + Wait + Sync, K: Linker<J> + Sy
     events_have_owners();
     harts_fit();
     ways_are_whole();
+    start_harts(rt, linker, memory, runs);
     let first = run_harts(rt, linker, memory, runs, entry);
     ends_of(ends, first, runs)
 }
@@ -335,6 +337,7 @@ fn left_by<J: Opening>(
     ends: Ends,
 ) -> Ran
     requires keeps { KeepsState J.setting J.journal state keeper }
+    requires rounds { AreRounds J.journal keeper.events keeper.opens }
     requires some { 0 < J.setting.machine.harts }
     requires have { (setup : setup_value) × (started : started_value) × HaveRun J.setting setup J.journal started ends seats.items }
     ensures threaded { (setup : setup_value) (started : started_value) → Starts J.setting setup J.journal started
@@ -344,6 +347,7 @@ fn left_by<J: Opening>(
     ways_are_whole();
     trails_follow();
     trails_end();
+    fuel_bounds_turns();
     blocks_are_asked_once();
     turns_append();
     turns_are_counted();

@@ -10,7 +10,7 @@ ghost use Rattle.tls_blocks.specs.Blocks.{BlockTable};
 ghost use Rattle.word_installs.specs.Starting.{IsStartup};
 ghost use Rattle.word_memory.specs.WordSeats.Making.{new_harts};
 ghost use Rattle.word_rule.specs.Views.{IsLong};
-ghost use Rattle.world_threads.specs.Setting.{AreSetOff, HasStarted, KeepsNone, hears};
+ghost use Rattle.world_threads.specs.Setting.{AreSetOff, IsSetUp, KeepsNone, hears};
 
 use hart_linker::{HartBlocks, Opening};
 use hart_seat::{LinkedHart, Purpose};
@@ -41,7 +41,7 @@ pub(crate) fn starting_memory<J: Opening>(
     requires few { state.now.harts ≤ 16 }
     requires harts { J.setting.machine.harts ≡ state.now.harts }
     requires brings { IsStartup J.setting state.now.events installs.now }
-    ensures keeper { IfOk result (λ made. HasStarted J.setting state.now.events made.1.keeper) }
+    ensures keeper { IfOk result (λ made. IsSetUp J.setting state.now.events made.1.keeper) }
     ensures harts { IfOk result (λ made. made.1.harts ≡ new_harts state.now.harts) }
 {
     startup_is_kept();

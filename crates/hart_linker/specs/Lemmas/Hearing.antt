@@ -43,4 +43,5 @@ hears_between w begun before now b d reason x over calm lane at = record {
   blocks = blocks_told w begun before now d x at.blocks;
   early = early_on d before.heard x.longer.0 now.heard x.longer.1 at.early;
   current = λ on. absurd (let no : None ≡ Some reason = sym on ∙ over in cc);
+  reached = λ on. absurd (let no : None ≡ Some reason = sym on ∙ over in cc);
 }

@@ -1,7 +1,7 @@
 use Rattle.std.proofs.Common.{ap, refl, sym, subst, get_or}
 use Rattle.word_rule.specs.Views.{BeginsWith, IsLane}
 use Rattle.hart_linker.specs.Between.{Hears}
-use Rattle.hart_threads.specs.Run.{IsTold}
+use Rattle.hart_threads.specs.Run.{HearsUpTo}
 use Rattle.hart_threads.proofs.Hearing.{told_same}
 use Rattle.hart_threads.proofs.Slices.{first_is, front_is, one_and, one_same}
 use Rattle.hart_threads.proofs.harts.tell_all.Goals as goal
@@ -11,7 +11,7 @@ returns-clause-told g c =
     let w = g.J.Opening.setting in
     let begun = g.J.Opening.journal in
     let split = c.split_at_mut-first in
-    one_and (λ first before now. IsTold w begun first.seat before.seat now.seat) split.result.0.now split.result.1.now c.args.runs.now c.tell_others.new.others _ split.ensures.front_len split.ensures.value
+    one_and (λ first before now. HearsUpTo w begun first.seat before.seat now.seat) split.result.0.now split.result.1.now c.args.runs.now c.tell_others.new.others _ split.ensures.front_len split.ensures.value
     (λ d. told_same w begun c.tell_others.new.first (get_or c.args.runs.now 0 d).seat c.tell_others.new.first
     (subst (λ h. Hears w begun h c.tell_others.new.first)
     (ap (λ x. x.seat) (sym (front_is split.result.0.now split.result.1.now c.args.runs.now split.ensures.front_len split.ensures.value d c.index-first-0.result))) c.tell_others.ensures.first)

@@ -1,5 +1,5 @@
 use Rattle.std.proofs.Common.{◌≡◌, ◌<◌, ap, subst, sym, ◌∙◌, length, get_or, arith}
-use Rattle.hart_threads.specs.Run.{IsTold}
+use Rattle.hart_threads.specs.Run.{HearsUpTo}
 use Rattle.word_rule.specs.Views.{BeginsWith}
 use Rattle.hart_threads.proofs.Hearing.{front_of, hears_more, told_same, told_still}
 use Rattle.hart_threads.proofs.Slices.{any_is, set_cases}
@@ -16,8 +16,8 @@ loop-other-preserved g c =
     let low_here : n < length all = omega (arith, c.loop-other.auto.others, c.loop-other-test.true) in
     record {
       first = hears_more w begun c.args.first.now c.loop-other.first c.tell_both.new.one inv.first c.tell_both.ensures.one;
-      told = λ i d low. set_cases (λ x. IsTold w begun c.tell_both.new.one (get_or c.args.others.now i d).seat x.seat) all n _ i d low_here
-          (λ same. subst (λ h. IsTold w begun c.tell_both.new.one h c.tell_both.new.other)
+      told = λ i d low. set_cases (λ x. HearsUpTo w begun c.tell_both.new.one (get_or c.args.others.now i d).seat x.seat) all n _ i d low_here
+          (λ same. subst (λ h. HearsUpTo w begun c.tell_both.new.one h c.tell_both.new.other)
           (ap (λ x. x.seat) (any_is all n r d low_here ∙ inv.rest n d (omega arith) ∙ ap (λ k. get_or c.args.others.now k d) (sym same)))
           (told_same w begun c.tell_both.new.one (get_or all n r).seat c.tell_both.new.other c.tell_both.ensures.other c.tell_both.ensures.same c.tell_both.ensures.lane))
           (λ apart. told_still w begun c.loop-other.first c.tell_both.new.one (get_or c.args.others.now i d).seat (get_or all i d).seat c.tell_both.ensures.one (inv.told i d (omega (arith, low, apart))));

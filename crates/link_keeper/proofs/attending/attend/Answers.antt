@@ -36,3 +36,5 @@ pub returns-clause-first : goal.returns-clause-first
 returns-clause-first g c = settled_first c.args.seat.now.number c.args.keeper.now c.begin.new.keeper c.settle_all.new.keeper
     (subst (λ n. c.begin.new.keeper ≡ awaited_if n true c.args.keeper.now) c.requires.id
     (c.begin.ensures.keeper ∙ ap (λ (k : KeeperView). awaited_if c.args.id true k) c.tell.ensures.keeper)) c.settle_all.ensures.settled
+    (none_open g.J.Opening.setting g.J.Opening.journal c.settle_all.new.state c.settle_all.new.keeper c.settle_all.ensures.keeps
+    (c.accepted_object.ensures.machine g.J.Opening.setting.machine (ap (λ (m : Machine). m.verdict) c.settle_all.ensures.keeps.machine)) c.slots_stand.ensures.granted)

@@ -68,5 +68,5 @@ returns-clause-settled g c =
     (again_low w c.id_of-id.result zeroth c.requires.some) (λ _. zeroth) c.states_stay.ensures.events c.records_stay.ensures.quiet Memory c.ended.new.self
     (ap (λ (t : LinkTable). t.events) c.ended.ensures) (ap (λ (t : LinkTable). t.harts) c.ended.ensures) in
     one_behind_settled c.args.seat.now.number c.args.keeper.now c.attend.new.keeper c.pass_next.new.keeper c.attend.new.seat c.pass_next.new.seat c.id_of-id.result (Ended c.id_of-id.result Memory)
-    c.attend.ensures.keeps.view.kept.long (subst (λ n. n < 16) (c.number.ensures.number ∙ sym c.id_of-id.ensures) c.number.ensures.low) c.id_of-id.ensures refl c.attend.ensures.first
+    c.id_of-id.ensures refl c.attend.ensures.first
     (c.pass_next.ensures.passed (Ended c.id_of-id.result Memory) [] next)

@@ -73,7 +73,7 @@ returns-clause-opened g c = one_more_came c.args.keeper.now.events c.attend.new.
 
 pub returns-clause-settled : goal.returns-clause-settled
 returns-clause-settled g c = one_behind_settled c.args.seat.now.number c.args.keeper.now c.attend.new.keeper c.pass_next.new.keeper c.attend.new.seat c.pass_next.new.seat c.id_of-id.result
-    (Ended c.id_of-id.result c.args.reason) c.attend.ensures.keeps.view.kept.long (subst (λ n. n < 16) (c.number.ensures.number ∙ sym c.id_of-id.ensures) c.number.ensures.low) c.id_of-id.ensures refl
+    (Ended c.id_of-id.result c.args.reason) c.id_of-id.ensures refl
     c.attend.ensures.first
     (c.pass_next.ensures.passed (Ended c.id_of-id.result c.args.reason) [] (end_next c.harts_fit.ensures.others c.running_is_not_over.ensures.runs c.harts_fit.ensures.may_end g.J.Opening.setting g.J.Opening.journal c.attend.new.state c.attend.new.keeper c.args.seat.now
     c.attend.new.seat c.id_of-id.result c.attend.ensures.keeps c.requires.heard c.id_of-id.ensures c.requires.run c.attend.ensures.attends c.states_stay.ensures.events c.records_stay.ensures.quiet c.args.reason

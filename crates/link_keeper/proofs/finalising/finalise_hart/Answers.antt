@@ -16,7 +16,7 @@ use Rattle.link_keeper.specs.Attending.{NobodysCame}
 use Rattle.link_keeper.specs.Finalising.{HasPlan, IsPlannedOr, MayFinalise}
 use Rattle.link_keeper.specs.Keeping.{KeepsState, OpensNothing}
 use Rattle.link_keeper.specs.Settling.{SettlesFirst}
-use Rattle.link_keeper.proofs.Finalised.{initialised_so, is_last, may_finalise, planned_on, zeroth}
+use Rattle.link_keeper.proofs.Finalised.{initialised_so, is_last, may_finalise, planned_on, runs_finals, zeroth}
 use Rattle.link_keeper.proofs.GoneBy.{at_last, fits_told, hand_last, may_last, opens_behind, own_behind, quiet_between, quiet_turn, row_idle, taken_last}
 use Rattle.link_keeper.proofs.Left.{own_behind_settled}
 use Rattle.link_keeper.proofs.Lacking.{opens_none}
@@ -107,7 +107,7 @@ returns-in-Quiet-clause-turn g c =
 
 pub returns-in-Quiet-clause-between : goal.returns-in-Quiet-clause-between
 returns-in-Quiet-clause-between g c =
-    quiet_between c.own_moves_fit.ensures c.modules_are_tidy.ensures.tidy c.nothing_comes_before_startup.ensures g.J.Opening.setting g.J.Opening.journal c.args.keeper.now c.args.seat.now c.hear.new.seat c.id_of-id.result c.args.hart.now.hart c.go_by.new.hart.hart c.args.blocks.now c.begin.new.self c.requires.keeps.view c.requires.between c.hear.ensures.hears c.hear.ensures.all c.id_of-id.ensures (fits_told c.harts_fit.ensures.others g.J.Opening.setting g.J.Opening.journal c.args.keeper.now c.args.seat.now c.id_of-id.result c.args.hart.now.hart c.args.blocks.now c.requires.keeps.view c.requires.between c.id_of-id.ensures (is_last (after c.args.keeper.now.events) c.args.hart.now.hart (c.requires.last (after c.args.keeper.now.events))).runs c.hear.new.seat c.hear.ensures.hears c.hear.ensures.all) (is_last (after c.args.keeper.now.events) c.args.hart.now.hart (c.requires.last (after c.args.keeper.now.events))).runs (is_last (after c.args.keeper.now.events) c.args.hart.now.hart (c.requires.last (after c.args.keeper.now.events))).rests (subst (λ (es : List Event). Moves g.J.Opening.setting es c.id_of-id.result c.args.hart.now.hart (Did.quiet []) c.go_by.new.hart.hart) (sym c.requires.keeps.same) (subst (λ (x : HartState). Moves g.J.Opening.setting c.args.state.now.events c.id_of-id.result x (Did.quiet []) c.go_by.new.hart.hart) c.plan_turn.ensures.hart c.go_by.ensures.moves)) c.go_by.ensures.rests c.generation.result
+    quiet_between c.own_moves_fit.ensures c.modules_are_tidy.ensures.tidy c.nothing_comes_before_startup.ensures g.J.Opening.setting g.J.Opening.journal c.args.keeper.now c.args.seat.now c.hear.new.seat c.id_of-id.result c.args.hart.now.hart c.go_by.new.hart.hart c.args.blocks.now c.begin.new.self c.requires.keeps.view c.requires.between c.hear.ensures.hears c.hear.ensures.all c.id_of-id.ensures (fits_told c.harts_fit.ensures.others g.J.Opening.setting g.J.Opening.journal c.args.keeper.now c.args.seat.now c.id_of-id.result c.args.hart.now.hart c.args.blocks.now c.requires.keeps.view c.requires.between c.id_of-id.ensures (is_last (after c.args.keeper.now.events) c.args.hart.now.hart (c.requires.last (after c.args.keeper.now.events))).runs c.hear.new.seat c.hear.ensures.hears c.hear.ensures.all) (is_last (after c.args.keeper.now.events) c.args.hart.now.hart (c.requires.last (after c.args.keeper.now.events))).runs (is_last (after c.args.keeper.now.events) c.args.hart.now.hart (c.requires.last (after c.args.keeper.now.events))).rests (subst (λ (es : List Event). Moves g.J.Opening.setting es c.id_of-id.result c.args.hart.now.hart (Did.quiet []) c.go_by.new.hart.hart) (sym c.requires.keeps.same) (subst (λ (x : HartState). Moves g.J.Opening.setting c.args.state.now.events c.id_of-id.result x (Did.quiet []) c.go_by.new.hart.hart) c.plan_turn.ensures.hart c.go_by.ensures.moves)) c.go_by.ensures.rests c.turns_append.ensures.finals (runs_finals (after c.args.keeper.now.events) c.args.hart.now.hart (c.requires.last (after c.args.keeper.now.events))) c.generation.result
     (c.generation.ensures ∙ c.modules.ensures.generation ∙ ap (λ (x : LinkTable). (after x.events).generation) c.go_by.ensures.state ∙ ap (λ (es : List Event). (after es).generation) (sym c.requires.keeps.same))
     c.begin.ensures.entries c.begin.ensures.generation c.hear.ensures.issued
 
@@ -168,4 +168,4 @@ returns-in-Asks-clause-settled g c =
     (subst (λ (n : ℕ). SettlesFirst n c.hear.new.keeper c.attend.new.keeper) same c.attend.ensures.first)) over.passed.events
     (λ e there. turns_own g.J.Opening.setting c.attend.new.keeper.events c.id_of-id.result c.args.hart.now.hart c.act_last-acted.new.hart.hart turn.acts.did turn.acts.moves e there
     ∙ ap (λ (n : ℕ). Some n) c.id_of-id.ensures)
-    over.passed.opens (λ m apart. over.passed.pending m (λ is. apart (is ∙ c.attend.ensures.attends.number ∙ same))))
+    over.passed.opens)

@@ -5,7 +5,10 @@ use Rattle.word_rule.specs.declared.view.KeeperView.{KeeperView}
 use Rattle.kept_words.specs.Over.{IsOver}
 use Rattle.link_keeper.specs.Finishing.{RunIsOver, knows}
 use Rattle.link_keeper.specs.Keeping.{KeepsView}
+use Rattle.link_keeper.specs.Rounds.{AreRounds}
 use Rattle.link_keeper.proofs.Finished.{alone, are_there, have_ended, joined_state, over}
+use Rattle.link_keeper.proofs.Left.{all_settled, one_round_more}
+use Rattle.link_keeper.proofs.Settled.{none_open}
 use Rattle.link_keeper.proofs.finishing.finish.Goals as goal
 
 pub settle_ended-requires-clause-keeps : goal.settle_ended-requires-clause-keeps
@@ -50,3 +53,12 @@ returns-clause-keeps g c = subst (KeepsView g.J.Opening.setting g.J.Opening.jour
 
 pub returns-clause-known : goal.returns-clause-known
 returns-clause-known g c = subst IsOver (sym c.look_over.ensures.same) (record { settled = c.settle_ended.ensures.settled.none; decided = c.look_over.ensures.decided })
+
+pub returns-clause-rounds : goal.returns-clause-rounds
+returns-clause-rounds g c =
+    let begun = g.J.Opening.journal in
+    let before = subst (λ (k : KeeperView). AreRounds begun k.events k.opens) (sym c.join_all.ensures.joined) c.requires.rounds in
+    let free = none_open g.J.Opening.setting begun c.settle_ended.new.state c.settle_ended.new.keeper c.settle_ended.ensures.keeps
+    (c.accepted_object.ensures.machine g.J.Opening.setting.machine (ap (λ (m : Machine). m.verdict) c.requires.keeps.machine)) c.slots_stand.ensures.granted in
+    subst (λ (k : KeeperView). AreRounds begun k.events k.opens) (sym c.look_over.ensures.same)
+    (one_round_more begun 0 c.join_all.new.keeper c.settle_ended.new.keeper before (all_settled 0 c.join_all.new.keeper c.settle_ended.new.keeper c.settle_ended.ensures.settled.settled free))

@@ -88,7 +88,7 @@ returns-clause-settled g c =
     own_behind_settled c.args.seat.now.number c.args.keeper.now c.attend.new.keeper c.pass-entry.new.keeper (events_of turn.acts.did) c.attend.ensures.first over.passed.events
     (λ e there. turns_own g.J.Opening.setting c.attend.new.keeper.events c.id_of-id.result c.args.hart.now.hart c.act-acted.new.hart.hart turn.acts.did turn.acts.moves e there
     ∙ ap (λ (n : ℕ). Some n) c.id_of-id.ensures)
-    over.passed.opens (λ m apart. over.passed.pending m (λ same. apart (same ∙ c.attend.ensures.attends.number)))
+    over.passed.opens
 
 pub returns-clause-longer : goal.returns-clause-longer
 returns-clause-longer g c =

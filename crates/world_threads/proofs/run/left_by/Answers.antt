@@ -2,6 +2,7 @@ use Rattle.std.proofs.Common.{sym, ap, subst, ◌∙◌}
 use Rattle.history_event.specs.declared.journal.Journal.{Journal}
 use Rattle.kept_words.specs.Kept.{AreKept}
 use Rattle.kept_words.specs.Over.{IsOver}
+use Rattle.link_keeper.specs.Rounds.{AreRounds}
 use Rattle.word_rule.specs.declared.view.KeeperView.{KeeperView}
 use Rattle.world_threads.proofs.Over.{threaded}
 use Rattle.world_threads.proofs.run.left_by.Goals as goal
@@ -20,6 +21,7 @@ returns-clause-threaded g c = λ setup started starts have.
       running = c.running_is_not_over.ensures.runs;
       start = c.run_journals_grow.ensures.start;
       grow = c.run_journals_grow.ensures.grow;
+      fuel = c.fuel_bounds_turns.ensures;
     })
     g.J.Opening.setting setup g.J.Opening.journal started c.args.keeper.events c.finish.new.keeper.events c.args.ends c.args.seats.items
     (record { over = c.finish.ensures.over; last = c.requires.keeps.view.last; some = c.requires.some; run = have })
@@ -29,4 +31,5 @@ returns-clause-threaded g c = λ setup started starts have.
     (ap (λ (k : KeeperView). k.events) c.into_trails.ensures)
     (ap (λ (k : KeeperView). k.joined) c.into_trails.ensures ∙ c.finish.ensures.joined)
     (subst (AreKept g.J.Opening.setting g.J.Opening.journal) (sym c.into_trails.ensures) c.finish.ensures.keeps.kept)
-    (subst IsOver (sym c.into_trails.ensures) c.finish.ensures.known) starts
+    (subst IsOver (sym c.into_trails.ensures) c.finish.ensures.known)
+    (subst (λ (k : KeeperView). AreRounds g.J.Opening.journal k.events k.opens) (sym c.into_trails.ensures) c.finish.ensures.rounds) starts

@@ -1,6 +1,6 @@
 use Rattle.std.proofs.Common.{◌++◌, append_assoc, drop, length, map, sym, ap, subst, ◌∙◌, arith}
 use Rattle.history_state.specs.Setting.{Machine}
-use Rattle.link_keeper.specs.Keeping.{IsKept}
+use Rattle.link_keeper.specs.Keeping.{LockKeeps}
 use Rattle.world_answers.specs.GuestsPart.Counting.{Rise, counts_at}
 use Rattle.world_threads.specs.Running.{HaveRun, SetsOff}
 use Rattle.world_threads.proofs.Kept.{is_kept}
@@ -15,8 +15,8 @@ of-library-requires g c = subst (λ x. Rise x (counts_at g.L.Library.faults g.L.
 pub new-keeper-requires : goal.new-keeper-requires
 new-keeper-requires g c =
     let off = c.requires.set_off in
-    subst (λ l. IsKept g.J.Opening.setting g.J.Opening.journal g.J.Opening.counts c.args.state c.args.ready.keeper c.args.ready.folders (g.L.Library.files l) (counts_at g.L.Library.faults g.L.Library.misses l)) (sym c.of-library.ensures)
-    (subst (λ x. IsKept g.J.Opening.setting g.J.Opening.journal g.J.Opening.counts c.args.state c.args.ready.keeper c.args.ready.folders (g.L.Library.files c.args.library) x) c.requires.library.1
+    subst (λ l. LockKeeps g.J.Opening.setting g.J.Opening.journal g.J.Opening.counts c.args.state c.args.ready.keeper c.args.ready.folders (g.L.Library.files l) (counts_at g.L.Library.faults g.L.Library.misses l)) (sym c.of-library.ensures)
+    (subst (λ x. LockKeeps g.J.Opening.setting g.J.Opening.journal g.J.Opening.counts c.args.state c.args.ready.keeper c.args.ready.folders (g.L.Library.files c.args.library) x) c.requires.library.1
     (is_kept g.J.Opening.setting off.0 g.J.Opening.journal off.1 off.2.starts c.counts_show.ensures.nothing g.J.Opening.counts c.args.state c.args.ready.keeper c.args.ready.folders (g.L.Library.files c.args.library)
     c.requires.keeper c.requires.journal c.requires.machine c.requires.folders c.requires.library.0))
 
@@ -48,6 +48,9 @@ left_by-ran-requires-clause-have g c =
           (c.run_all-ends.ensures off.0 off.1
           (subst (λ xs. SetsOff g.J.Opening.setting off.0 g.J.Opening.journal off.1 c.args.ready.entry (map (λ r. r.seat) xs) (map (λ r. r.hart.hart) xs) (map (λ r. r.blocks) xs)) (sym value) off.2)),
     )
+
+pub left_by-ran-requires-clause-rounds : goal.left_by-ran-requires-clause-rounds
+left_by-ran-requires-clause-rounds g c = c.close-state.ensures.kept.rounds
 
 pub returns-clause-threaded : goal.returns-clause-threaded
 returns-clause-threaded g c = λ setup started off.

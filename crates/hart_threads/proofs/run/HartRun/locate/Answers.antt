@@ -27,7 +27,7 @@ returns-else-not-kept-clause-runs g c =
     let hart = c.args.self.now.hart.hart in
     let blocks = c.args.self.now.blocks in
     let reads = subst (λ (t : Bool). ReadsBlock seat c.kept_block-kept.new.seat blocks c.args.number c.args.offset hart c.kept_block-kept.new.hart.hart t) c.if-not-kept.false c.kept_block-kept.ensures in
-    kept_on c.own_moves_fit.ensures c.trails_grow.ensures.stay c.trails_grow.ensures.behind g.J.Opening.setting g.J.Opening.journal seat c.kept_block-kept.new.seat hart c.kept_block-kept.new.hart.hart blocks c.args.number c.args.offset
+    kept_on c.own_moves_fit.ensures c.turns_append.ensures.finals c.trails_grow.ensures.stay c.trails_grow.ensures.behind g.J.Opening.setting g.J.Opening.journal seat c.kept_block-kept.new.seat hart c.kept_block-kept.new.hart.hart blocks c.args.number c.args.offset
     c.requires.between c.requires.runs c.number.ensures.lane c.requires.asks reads
 
 pub returns-then-not-kept-clause-spends : goal.returns-then-not-kept-clause-spends

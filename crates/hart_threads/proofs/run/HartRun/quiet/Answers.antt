@@ -29,7 +29,7 @@ returns-in-Some-clause-runs g c =
 
 pub returns-in_default-clause-runs : goal.returns-in_default-clause-runs
 returns-in_default-clause-runs g c =
-    quiet_on c.own_moves_fit.ensures c.trails_grow.ensures.stay c.trails_grow.ensures.behind g.J.Opening.setting g.J.Opening.journal c.args.self.now.seat c.take_quiet-turned.new.seat
+    quiet_on c.own_moves_fit.ensures c.turns_append.ensures.finals c.trails_grow.ensures.stay c.trails_grow.ensures.behind g.J.Opening.setting g.J.Opening.journal c.args.self.now.seat c.take_quiet-turned.new.seat
     c.args.self.now.hart.hart c.take_quiet-turned.new.hart.hart c.args.self.now.blocks c.take_quiet-turned.result c.requires.between c.requires.runs c.requires.own c.take_quiet-turned.ensures
     (sym c.end_of.ensures ∙ none_of c.end_of.result c.in_default.not-Some)
 

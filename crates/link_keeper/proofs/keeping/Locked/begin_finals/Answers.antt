@@ -1,6 +1,7 @@
 use Rattle.std.proofs.Common.{subst}
 use Rattle.word_rule.specs.declared.view.KeeperView.{KeeperView}
 use Rattle.link_keeper.specs.Settling.{SettlesOrRests}
+use Rattle.link_keeper.proofs.Left.{one_or_none_more}
 use Rattle.link_keeper.proofs.Shown.{begun_least, shown_on}
 use Rattle.link_keeper.proofs.keeping.Locked.begin_finals.Goals as goal
 
@@ -11,6 +12,7 @@ invariant_of-self g c = record {
   files_are = c.self.invariant.files_are;
   shown = shown_on c.counts_show.ensures.join g.J.Opening.setting.folders g.J.Opening.journal c.self.inside.seat.events c.begin_finals.new.keeper.events g.J.Opening.counts _
       (begun_least g.J.Opening.setting g.J.Opening.journal c.self.inside.state c.self.inside.seat c.self.invariant.keeps) c.begin_finals.ensures.opened c.self.invariant.shown;
+  rounds = one_or_none_more g.J.Opening.journal c.args.seat.now.number c.self.inside.seat c.begin_finals.new.keeper c.self.invariant.rounds c.begin_finals.ensures.settled;
 }
 
 pub returns-clause-settled : goal.returns-clause-settled

@@ -4,6 +4,7 @@ use Rattle.history_event.specs.declared.event.Event.{Event}
 use Rattle.history_calls.specs.Laws.{hart_of}
 use Rattle.word_rule.specs.declared.view.KeeperView.{KeeperView}
 use Rattle.link_keeper.specs.Settling.{SettlesOrRests}
+use Rattle.link_keeper.proofs.Left.{one_or_none_more}
 use Rattle.link_keeper.proofs.Shown.{begun_least, shown_on}
 use Rattle.link_keeper.proofs.keeping.Locked.finalise.Goals as goal
 
@@ -14,6 +15,7 @@ invariant_of-self g c = record {
   files_are = c.self.invariant.files_are;
   shown = shown_on c.counts_show.ensures.join g.J.Opening.setting.folders g.J.Opening.journal c.self.inside.seat.events c.finalise_hart.new.keeper.events g.J.Opening.counts _
       (begun_least g.J.Opening.setting g.J.Opening.journal c.self.inside.state c.self.inside.seat c.self.invariant.keeps) c.finalise_hart.ensures.opened c.self.invariant.shown;
+  rounds = one_or_none_more g.J.Opening.journal c.args.seat.now.number c.self.inside.seat c.finalise_hart.new.keeper c.self.invariant.rounds c.finalise_hart.ensures.settled;
 }
 
 pub returns-clause-settled : goal.returns-clause-settled

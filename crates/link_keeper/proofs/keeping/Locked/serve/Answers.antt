@@ -2,6 +2,7 @@ use Rattle.std.proofs.Common.{ℕ, List, drop, length, sym, subst, ◌∙◌}
 use Rattle.word_rule.specs.declared.view.KeeperView.{KeeperView}
 use Rattle.world_turns.specs.Counts.{ShowInCounts}
 use Rattle.link_keeper.specs.Settling.{SettlesFirst}
+use Rattle.link_keeper.proofs.Left.{one_round_more}
 use Rattle.link_keeper.proofs.Shown.{begun_least, more_shown}
 use Rattle.link_keeper.proofs.keeping.Locked.serve.Goals as goal
 
@@ -22,6 +23,7 @@ invariant_of-self g c = record {
       (subst (λ (folders : List (List ℕ)). ShowInCounts folders (drop (length c.self.inside.seat.events) c.serve_hart.new.keeper.events)
       (record { faults = g.L.Library.faults c.self.inside.library; misses = g.L.Library.misses c.self.inside.library })
       (record { faults = g.L.Library.faults c.serve_hart.new.library; misses = g.L.Library.misses c.serve_hart.new.library })) (sym c.self.invariant.folders_are) c.serve_hart.ensures.shown);
+  rounds = one_round_more g.J.Opening.journal c.args.seat.now.number c.self.inside.seat c.serve_hart.new.keeper c.self.invariant.rounds c.serve_hart.ensures.settled;
 }
 
 pub returns-clause-settled : goal.returns-clause-settled

@@ -1,7 +1,7 @@
 use Rattle.std.proofs.Common.{ap, ◌∙◌, arith}
 use Rattle.hart_threads.proofs.Apart.{calm, runs_alone, told_of, told_over, told_ready}
 use Rattle.hart_threads.proofs.Slices.{first_is, first_of}
-use Rattle.hart_threads.proofs.harts.start_apart.Goals as goal
+use Rattle.hart_threads.proofs.harts.start_harts.Goals as goal
 
 pub tell_begun-requires-clause-heard : goal.tell_begun-requires-clause-heard
 tell_begun-requires-clause-heard g c = λ k d low. (c.start_first.ensures.ready k d low).between.heard
@@ -29,7 +29,7 @@ returns-clause-apart g c =
       λ d. runs_alone c.harts_fit.ensures.others g.J.Opening.setting g.J.Opening.journal (λ r. r.seat) (λ r. r.hart.hart) (λ r. r.blocks) c.args.runs.now c.start_first.new.runs c.start_first.auto.runs
           c.requires.harts c.start_first.ensures.first c.start_first.ensures.calling c.start_first.ensures.others c.start_first.ensures.ready c.requires.numbers c.requires.heard c.requires.unrun
           c.tell_begun.new.runs c.tell_begun.auto.runs c.tell_begun.ensures.hears c.tell_begun.ensures.lanes c.tell_begun.ensures.since (λ i d. ap (λ h. h.hart) (c.tell_begun.ensures.harts i d))
-          c.tell_begun.ensures.blocks d e (omega arith) (first_is c.start_first.new.runs e d (omega arith)),
+          c.tell_begun.ensures.blocks d e (omega arith) (c.requires.fresh d) ((c.requires.ready 0 d c.requires.some).between.fits (c.requires.fresh d).runs) (first_is c.start_first.new.runs e d (omega arith)),
       λ i d some low. told_of c.harts_fit.ensures.others g.J.Opening.setting g.J.Opening.journal (λ r. r.seat) (λ r. r.hart.hart) (λ r. r.blocks) c.args.runs.now c.start_first.new.runs c.start_first.auto.runs
           c.requires.harts c.start_first.ensures.first c.start_first.ensures.calling c.start_first.ensures.others c.start_first.ensures.ready c.requires.numbers c.requires.heard c.requires.unrun
           c.tell_begun.new.runs c.tell_begun.auto.runs c.tell_begun.ensures.hears c.tell_begun.ensures.lanes c.tell_begun.ensures.since (λ i d. ap (λ h. h.hart) (c.tell_begun.ensures.harts i d))
