@@ -10,6 +10,7 @@ ghost use Rattle.scope_rule.specs.Seen.{Seen, seen};
 ghost use Rattle.scope_lists.specs.Lists.{AreListsOf, IsSearched, at_place};
 ghost use Rattle.scope_lists.specs.NameOrder.{IsNameOrder};
 ghost use Rattle.scope_lists.specs.Searched.{in_parts, serials_in};
+ghost use Rattle.sym_hash.specs.Reached.{IsTableOf};
 ghost use Rattle.sym_lookup.specs.Looking.{HaveTables, outside};
 ghost use Rattle.scope_lists.specs.VersionPlaces.Places.{places_of};
 

@@ -1,9 +1,9 @@
 -- What a reference takes of the definitions of a name, in the order of their indexes.
-use Rattle.std.proofs.Common.{◌≡◌, ◌↔◌, ◌∙◌, sym, ap, subst, ℕ, zero, suc, ◌+◌, ◌<◌, ◌≤◌, Bool, true, false, cond, List, [], ◌∷◌, length, refl, arith, inl, inr}
-use Rattle.std.specs.Prelude.{◌==◌, ◌&&◌, ◌||◌, not, nat_le, count_by, filter, if◌then◌else◌, Option, Some, None, slice_get, IsTrue}
+use Rattle.std.proofs.Common.{◌≡◌, ◌↔◌, ◌∙◌, sym, ap, ℕ, zero, suc, ◌+◌, ◌<◌, ◌≤◌, Bool, true, false, cond, List, [], ◌∷◌, length, refl, arith, inl, inr}
+use Rattle.std.specs.Prelude.{◌==◌, ◌&&◌, ◌||◌, not, nat_le, count_by, filter, if◌then◌else◌, Option, Some, None, slice_get}
 use Rattle.std.specs.List.{find, range_with_len}
 use Rattle.std.specs.Option.{MatchOption, option_map_or}
-use Rattle.std.proofs.lemmas.Bool.{and_from, and_parts, cases_Bool, eqb-true}
+use Rattle.std.proofs.lemmas.Bool.{and_from, and_parts, cases_eq, eqb-true, le-leb, leb-true}
 use Rattle.std.proofs.lemmas.List.Sums.{sum_by-cons}
 use Rattle.std.proofs.lemmas.Option.{slice_get_within}
 use Rattle.ld_base.specs.declared.linking.Want.{Want}
@@ -52,7 +52,7 @@ count_of_those p q (x ∷ xs) = by (q x) (count_of_those p q xs) ∙ sym (counte
   where
     by : (b : Bool) → count_by p (filter q xs) ≡ count_by (λ y. q y && p y) xs → count_by p (cond b (x ∷ filter q xs) (filter q xs)) ≡ cond (b && p x) 1 0 + count_by (λ y. q y && p y) xs
     by true later = counted p x (filter q xs) ∙ ap (λ n. cond (p x) 1 0 + n) later
-    by false later = later
+    by false later = omega (arith, later)
 
 -- ---- numbers that follow one another
 
@@ -67,13 +67,13 @@ module _ (p : ℕ → Bool) where
 
   none_more : (a n : ℕ) → p a ≡ false → NoneIn (a + 1) n → NoneIn a (suc n)
   none_more a n fails none k from below passes =
-      elim (cases_Bool (k == a)) [
-        | inl same ↦ absurd (let no : true ≡ false = sym passes ∙ ap p (eqb-true k a same) ∙ fails in cc no)
+      elim (cases_eq k a) [
+        | inl same ↦ absurd (let no : true ≡ false = sym passes ∙ ap p same ∙ fails in cc no)
         | inr apart ↦ none k (omega (arith, apart)) (omega arith) passes
       ]
 
   found_in : (a n : ℕ) (found : Option ℕ) → find p (range_with_len a n) ≡ found → MatchOption found (NoneIn a n) (LeastIn a n)
-  found_in a zero None is = λ k from below passes. omega arith
+  found_in a zero None is = λ k from below passes. absurd (omega arith)
   found_in a zero (Some i) is = absurd (cc is)
   found_in a (suc n) found is = by (p a) refl found is (found_in (a + 1) n found)
     where
@@ -85,19 +85,21 @@ module _ (p : ℕ → Bool) where
       by false fails (Some i) e later = (
         (later e).0,
         λ j from below passes.
-            elim (cases_Bool (j == a)) [
-              | inl same ↦ absurd (let no : true ≡ false = sym passes ∙ ap p (eqb-true j a same) ∙ fails in cc no)
+            elim (cases_eq j a) [
+              | inl same ↦ absurd (let no : true ≡ false = sym passes ∙ ap p same ∙ fails in cc no)
               | inr apart ↦ (later e).1 j (omega (arith, apart)) (omega arith) passes
             ],
       )
 
   zero_none : (a n : ℕ) → count_by p (range_with_len a n) ≡ 0 → NoneIn a n
-  zero_none a zero zeros k from below passes = omega arith
+  zero_none a zero zeros = λ k from below passes. absurd (omega arith)
   zero_none a (suc n) zeros = by (p a) refl (counted p a (range_with_len (a + 1) n)) (zero_none (a + 1) n)
     where
       by : (b : Bool) → p a ≡ b → count_by p (range_with_len a (suc n)) ≡ cond (p a) 1 0 + count_by p (range_with_len (a + 1) n) → (count_by p (range_with_len (a + 1) n) ≡ 0 → NoneIn (a + 1) n) → NoneIn a (suc n)
       by true has more later = absurd (let one : count_by p (range_with_len a (suc n)) ≡ 1 + count_by p (range_with_len (a + 1) n) = more ∙ ap (λ b. cond b 1 0 + count_by p (range_with_len (a + 1) n)) has in omega (arith, one, zeros))
-      by false fails more later = none_more a n fails (later (sym (more ∙ ap (λ b. cond b 1 0 + count_by p (range_with_len (a + 1) n)) fails) ∙ zeros))
+      by false fails more later =
+          let sum : count_by p (range_with_len a (suc n)) ≡ 0 + count_by p (range_with_len (a + 1) n) = more ∙ ap (λ b. cond b 1 0 + count_by p (range_with_len (a + 1) n)) fails in
+          none_more a n fails (later (omega (arith, sum, zeros)))
 
   none_zero : (a n : ℕ) → NoneIn a n → count_by p (range_with_len a n) ≡ 0
   none_zero a zero none = refl
@@ -105,7 +107,9 @@ module _ (p : ℕ → Bool) where
     where
       by : (b : Bool) → p a ≡ b → count_by p (range_with_len a (suc n)) ≡ cond (p a) 1 0 + count_by p (range_with_len (a + 1) n) → count_by p (range_with_len (a + 1) n) ≡ 0 → count_by p (range_with_len a (suc n)) ≡ 0
       by true has more later = absurd (none a (omega arith) (omega arith) has)
-      by false fails more later = more ∙ ap (λ b. cond b 1 0 + count_by p (range_with_len (a + 1) n)) fails ∙ later
+      by false fails more later =
+          let sum : count_by p (range_with_len a (suc n)) ≡ 0 + count_by p (range_with_len (a + 1) n) = more ∙ ap (λ b. cond b 1 0 + count_by p (range_with_len (a + 1) n)) fails in
+          omega (arith, sum, later)
 
   -- one is counted just where one alone passes
   one_alone : (a n : ℕ) → count_by p (range_with_len a n) ≡ 1 → (i j : ℕ) → a ≤ i → i < a + n → p i ≡ true → a ≤ j → j < a + n → p j ≡ true → i ≤ j
@@ -117,17 +121,17 @@ module _ (p : ℕ → Bool) where
       by true has more later =
           let sum : count_by p (range_with_len a (suc n)) ≡ 1 + count_by p (range_with_len (a + 1) n) = more ∙ ap (λ b. cond b 1 0 + count_by p (range_with_len (a + 1) n)) has in
           let none = zero_none (a + 1) n (omega (arith, sum, one)) in
-          elim (cases_Bool (i == a)) [
-            | inl same ↦ let e = eqb-true i a same in omega (arith, e)
+          elim (cases_eq i a) [
+            | inl same ↦ omega (arith, same)
             | inr apart ↦ absurd (none i (omega (arith, apart)) (omega arith) passes)
           ]
       by false fails more later =
-          let sum : count_by p (range_with_len (a + 1) n) ≡ 1 = sym (more ∙ ap (λ b. cond b 1 0 + count_by p (range_with_len (a + 1) n)) fails) ∙ one in
-          elim (cases_Bool (i == a)) [
-            | inl same ↦ let e = eqb-true i a same in omega (arith, e)
-            | inr apart ↦ elim (cases_Bool (j == a)) [
-              | inl same ↦ absurd (let no : true ≡ false = sym other ∙ ap p (eqb-true j a same) ∙ fails in cc no)
-              | inr away ↦ later sum i j (omega (arith, apart)) (omega arith) passes (omega (arith, away)) (omega arith) other
+          let sum : count_by p (range_with_len a (suc n)) ≡ 0 + count_by p (range_with_len (a + 1) n) = more ∙ ap (λ b. cond b 1 0 + count_by p (range_with_len (a + 1) n)) fails in
+          elim (cases_eq i a) [
+            | inl same ↦ omega (arith, same)
+            | inr apart ↦ elim (cases_eq j a) [
+              | inl same ↦ absurd (let no : true ≡ false = sym other ∙ ap p same ∙ fails in cc no)
+              | inr away ↦ later (omega (arith, sum, one)) i j (omega (arith, apart)) (omega arith) passes (omega (arith, away)) (omega arith) other
             ]
           ]
 
@@ -141,14 +145,17 @@ module _ (p : ℕ → Bool) where
       by true has more later =
           let first : a ≡ k = only a (omega arith) (omega arith) has in
           let rest : count_by p (range_with_len (a + 1) n) ≡ 0 = none_zero (a + 1) n (λ j above within other. let same = only j (omega arith) (omega arith) other in omega (arith, same, first)) in
-          more ∙ ap (λ b. cond b 1 0 + count_by p (range_with_len (a + 1) n)) has ∙ ap (λ m. 1 + m) rest
+          let sum : count_by p (range_with_len a (suc n)) ≡ 1 + count_by p (range_with_len (a + 1) n) = more ∙ ap (λ b. cond b 1 0 + count_by p (range_with_len (a + 1) n)) has in
+          omega (arith, sum, rest)
       by false fails more later =
           let behind : a + 1 ≤ k =
-          elim (cases_Bool (k == a)) [
-            | inl same ↦ absurd (let no : true ≡ false = sym passes ∙ ap p (eqb-true k a same) ∙ fails in cc no)
+          elim (cases_eq k a) [
+            | inl same ↦ absurd (let no : true ≡ false = sym passes ∙ ap p same ∙ fails in cc no)
             | inr apart ↦ omega (arith, apart)
           ] in
-          more ∙ ap (λ b. cond b 1 0 + count_by p (range_with_len (a + 1) n)) fails ∙ later behind (omega arith) passes (λ j above within other. only j (omega arith) (omega arith) other)
+          let sum : count_by p (range_with_len a (suc n)) ≡ 0 + count_by p (range_with_len (a + 1) n) = more ∙ ap (λ b. cond b 1 0 + count_by p (range_with_len (a + 1) n)) fails in
+          let rest : count_by p (range_with_len (a + 1) n) ≡ 1 = later behind (omega arith) passes (λ j above within other. only j (omega arith) (omega arith) other) in
+          omega (arith, sum, rest)
 
 -- ---- the symbols that an object may export
 
@@ -161,10 +168,10 @@ module _ (o : Object) (test : Symbol → Bool) where
     where
       by : (s : Option Symbol) → slice_get o.symbols k ≡ s → (nat_le o.first_exported k && option_map_or test s false) ≡ true → Exports o test k
       by None at e = absurd (let no : false ≡ true = (and_parts (nat_le o.first_exported k) false e).1 in cc no)
-      by (Some s) at e = let both = and_parts (nat_le o.first_exported k) (test s) e in (omega (arith, both.0), s, at, both.1)
+      by (Some s) at e = let both = and_parts (nat_le o.first_exported k) (test s) e in (leb-true o.first_exported k both.0, s, at, both.1)
 
   from_exports : (k : ℕ) → Exports o test k → exports o test k ≡ true
-  from_exports k (from, s, at, passes) = and_from (nat_le o.first_exported k) (option_map_or test (slice_get o.symbols k) false) (omega arith) (ap (λ x. option_map_or test x false) at ∙ passes)
+  from_exports k (from, s, at, passes) = and_from (nat_le o.first_exported k) (option_map_or test (slice_get o.symbols k) false) (le-leb o.first_exported k from) (ap (λ x. option_map_or test x false) at ∙ passes)
 
   within : (k : ℕ) → Exports o test k → k < 0 + length o.symbols
   within k (from, s, at, passes) = let small = slice_get_within o.symbols k s at in omega (arith, small)
@@ -271,35 +278,45 @@ module _ (o : Object) (name : List ℕ) (w : Want) where
 
   module _ (picks : (k : ℕ) → (pick_of o name w ≡ Some k) ↔ Takes o name w k) where
     -- the first that fits is taken
-    pub first_taken : (k : ℕ) → find (exports o (fits o name w)) Everything ≡ Some k → Some k ≡ pick_of o name w
+    first_taken : (k : ℕ) → find (exports o (fits o name w)) Everything ≡ Some k → Some k ≡ pick_of o name w
     first_taken k is = sym ((picks k).1 (inl (leasts o (fits o name w) (Some k) is)))
 
+    pub wanted_taken : (wanted : Option ℕ) (k : ℕ) → o.has_versym ≡ true → wanted ≡ find (is_wanted_at o w) Offers → wanted ≡ Some k → Some k ≡ pick_of o name w
+    wanted_taken wanted k some is found = first_taken k (sym (is ∙ wanted_first some) ∙ found)
+
     -- where none fits, the only one in sight is, if the reference names no version
-    pub sight_taken : (r : Option ℕ) → find (exports o (fits o name w)) Everything ≡ None → (o.has_versym && names_no_version w) ≡ true → r ≡ only_found o (in_sight o name) → r ≡ pick_of o name w
-    sight_taken r none names is =
+    pub sight_taken : (wanted r : Option ℕ) → o.has_versym ≡ true → wanted ≡ find (is_wanted_at o w) Offers → wanted ≡ None → names_no_version w ≡ true
+        → r ≡ (if count_by (in_sight_at o) Offers == 1 then find (in_sight_at o) Offers else None) → r ≡ pick_of o name w
+    sight_taken wanted r some is none names alone =
+        let unfit : find (exports o (fits o name w)) Everything ≡ None = sym (is ∙ wanted_first some) ∙ none in
+        let unversioned : (o.has_versym && names_no_version w) ≡ true = ap (λ b. b && names_no_version w) some ∙ names in
+        let only : r ≡ only_found o (in_sight o name) = alone ∙ sight_found in
         same_picks r (pick_of o name w)
         (λ k. (
-          λ e. inr (names, leasts o (fits o name w) None none, only_one o (in_sight o name) k (sym is ∙ e)),
+          λ e. inr (unversioned, leasts o (fits o name w) None unfit, only_one o (in_sight o name) k (sym only ∙ e)),
           λ takes. elim takes [
-            | inl least ↦ absurd (leasts o (fits o name w) None none k least.0)
-            | inr (unversioned, nowhere, only) ↦ is ∙ one_only o (in_sight o name) k only
+            | inl least ↦ absurd (leasts o (fits o name w) None unfit k least.0)
+            | inr (other, nowhere, alone) ↦ only ∙ one_only o (in_sight o name) k alone
           ],
         ))
         picks
 
-    pub none_taken : find (exports o (fits o name w)) Everything ≡ None → (o.has_versym && names_no_version w) ≡ false → None ≡ pick_of o name w
-    none_taken none names =
+    unfit_taken : find (exports o (fits o name w)) Everything ≡ None → (o.has_versym && names_no_version w) ≡ false → None ≡ pick_of o name w
+    unfit_taken unfit names =
         same_picks None (pick_of o name w)
         (λ k. (
           λ e. absurd (cc e),
           λ takes. elim takes [
-            | inl least ↦ absurd (leasts o (fits o name w) None none k least.0)
+            | inl least ↦ absurd (leasts o (fits o name w) None unfit k least.0)
             | inr (unversioned, nowhere, only) ↦ absurd (let no : true ≡ false = sym unversioned ∙ names in cc no)
           ],
         ))
         picks
 
+    pub none_taken : (wanted : Option ℕ) → o.has_versym ≡ true → wanted ≡ find (is_wanted_at o w) Offers → wanted ≡ None → names_no_version w ≡ false → None ≡ pick_of o name w
+    none_taken wanted some is none names = unfit_taken (sym (is ∙ wanted_first some) ∙ none) (ap (λ b. b && names_no_version w) some ∙ names)
+
     -- without versions the first of the name is
     pub any_taken : (r : Option ℕ) → o.has_versym ≡ false → r ≡ slice_get Offers 0 → r ≡ pick_of o name w
-    any_taken None without is = none_taken (sym (is ∙ any_first without)) (ap (λ b. b && names_no_version w) without)
+    any_taken None without is = unfit_taken (sym (is ∙ any_first without)) (ap (λ b. b && names_no_version w) without)
     any_taken (Some k) without is = first_taken k (sym (is ∙ any_first without))

@@ -34,6 +34,19 @@ fn shifted(hash: u32, shift: u32) -> u32
     if shift < u32::BITS { hash >> shift } else { 0 }
 }
 
+/// The remainder by a count of words. Most counts are powers of two, and need no division, which takes long.
+fn remainder(number: u32, count: usize) -> usize
+    requires { 0 < count }
+    ensures { result ≡ number % count }
+{
+    let bits = count.ilog2();
+    if count == 1 << bits {
+        number as usize & (count - 1)
+    } else {
+        number as usize % count
+    }
+}
+
 /// The word of the bloom filter for a hash, if there is one.
 fn bloom_word(bloom: &[u64], hash: u32) -> Option<u64>
     ensures { result ≡ slice_get bloom.now (hash / 64 % length bloom.now) }
@@ -41,7 +54,7 @@ fn bloom_word(bloom: &[u64], hash: u32) -> Option<u64>
     if bloom.is_empty() {
         None
     } else {
-        Some(bloom[(hash / 64) as usize % bloom.len()])
+        Some(bloom[remainder(hash / 64, bloom.len())])
     }
 }
 

@@ -1,4 +1,4 @@
-use Rattle.sym_lookup.proofs.searching.Searching.of.Goals as goal
+use Rattle.sym_lookup.proofs.searching.Searching.new.Goals as goal
 
 pub invariant_of-result : goal.invariant_of-result
-invariant_of-result c = (c.requires.lists, c.requires.names, c.requires.tables, c.requires.scope, c.in_ok-tables.ensures)
+invariant_of-result c = (c.requires.lists, c.requires.names, c.requires.tables, c.requires.scope)
