@@ -22,8 +22,8 @@ use Rattle.kept_words.specs.Handed.{IsIssued, event_numbers, own_numbers}
 use Rattle.kept_words.specs.Kept.{AreKept, IsFateEvent, ShowsLoss}
 use Rattle.kept_words.specs.Staying.{IsGrantEvent, number_in}
 
--- what became of each grant is known; and of each slot that is there another grant won where one was lost that had the lazy word at first, one
--- alone won, and it has the value that was seen in the slot. Of a slot that no grant lost, what it holds isn't said
+-- what became of each grant is known. Of a slot that is there, and was lazy at first, one grant won where another was lost, with the value that was seen
+-- in the slot; what a slot holds that no grant has lost isn't said
 pub record IsOver (k : KeeperView) : Type 0 where
   pub settled : (m : ℕ) → m < harts_at_most → (row_of k m).pending ≡ None
   pub decided : AreDecided k

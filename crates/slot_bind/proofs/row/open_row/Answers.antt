@@ -10,5 +10,5 @@ use Rattle.slot_bind.proofs.row.open_row.Goals as goal
 pub returns-clause-posted : goal.returns-clause-posted
 returns-clause-posted g c = opens c.args.keeper.now c.load_word-generation.new.self c.write_entry.new.keeper c.fill.new.keeper c.store_word.new.self c.args.hart 0 c.args.offer.now c.load_word-generation.ensures.resting.0 c.load_word-generation.ensures.resting.1 c.requires.low
     (c.load_word-generation.ensures.view ∙ heeds c.args.keeper.now c.load_word-generation.ensures.resting.0.note)
-    (c.write_entry.ensures.row ∙ ap (λ n. with_row c.args.hart (row_with (grant_of c.args.offer.now n).entry (row_of c.load_word-generation.new.self c.args.hart)) c.load_word-generation.new.self) c.load_word-generation.ensures.learns)
+    (c.write_entry.ensures.row ∙ ap (λ n. with_row c.args.hart (row_with (grant_of c.args.offer.now n).entry (row_of c.load_word-generation.new.self c.args.hart)) c.load_word-generation.new.self) c.load_word-generation.ensures.learns.0)
     c.fill.ensures.row c.store_word.ensures.view
