@@ -1,5 +1,5 @@
 -- What a reference takes of the definitions of a name, in the order of their indexes.
-use Rattle.std.proofs.Common.{◌≡◌, ◌↔◌, ◌∙◌, sym, ap, ℕ, zero, suc, ◌+◌, ◌<◌, ◌≤◌, Bool, true, false, cond, List, [], ◌∷◌, length, refl, arith, inl, inr}
+use Rattle.std.proofs.Common.{Bor, ◌≡◌, ◌↔◌, ◌∙◌, sym, ap, ℕ, zero, suc, ◌+◌, ◌<◌, ◌≤◌, Bool, true, false, cond, List, [], ◌∷◌, length, refl, arith, inl, inr}
 use Rattle.std.specs.Prelude.{◌==◌, ◌&&◌, ◌||◌, not, nat_le, count_by, filter, if◌then◌else◌, Option, Some, None, slice_get}
 use Rattle.std.specs.List.{find, range_with_len}
 use Rattle.std.specs.Option.{MatchOption, option_map_or}
@@ -7,13 +7,18 @@ use Rattle.std.proofs.lemmas.Bool.{and_from, and_parts, cases_eq, eqb-true, le-l
 use Rattle.std.proofs.lemmas.List.Sums.{sum_by-cons}
 use Rattle.std.proofs.lemmas.Option.{slice_get_within}
 use Rattle.ld_base.specs.declared.linking.Want.{Want}
+use Rattle.ld_base.specs.declared.linking.Want.TheVariants as want
 use Rattle.ld_base.specs.declared.object.Object.{Object}
 use Rattle.ld_base.specs.declared.object.Symbol.{Symbol}
-use Rattle.ld_base.specs.Pick.{is_offer, is_wanted, names_no_version, pick_of}
-use Rattle.ld_base.specs.Symbol.{is_hidden_version}
+use Rattle.ld_base.specs.Marks.{is_marked}
+use Rattle.ld_base.specs.Pick.{carries, is_offer, is_wanted, names_no_version, pick_of}
+use Rattle.ld_base.specs.Symbol.{is_hidden_version, version_index}
 use Rattle.ld_base.specs.Taken.{Exports, ExportsNone, IsLeast, IsOnly, Takes, fits, in_sight}
 use Rattle.scope_lists.specs.NameOrder.{exports, offers_of}
-use Rattle.sym_lookup.specs.SymFind.Offers.{in_sight_at, is_wanted_at}
+use Rattle.sym_lookup.specs.SymFind.Best.{passes}
+use Rattle.sym_lookup.specs.SymFind.Offers.{in_sight_at, is_wanted_at, passes_at}
+use Rattle.sym_lookup.specs.declared.sym_find.best.Test.{Test}
+use Rattle.sym_lookup.specs.declared.sym_find.best.Test.TheVariants as tests
 
 -- ---- what is found among those that pass
 
@@ -53,6 +58,35 @@ count_of_those p q (x ∷ xs) = by (q x) (count_of_those p q xs) ∙ sym (counte
     by : (b : Bool) → count_by p (filter q xs) ≡ count_by (λ y. q y && p y) xs → count_by p (cond b (x ∷ filter q xs) (filter q xs)) ≡ cond (b && p x) 1 0 + count_by (λ y. q y && p y) xs
     by true later = counted p x (filter q xs) ∙ ap (λ n. cond (p x) 1 0 + n) later
     by false later = omega (arith, later)
+
+-- ---- versions that are marked
+
+module _ (o : Object) (w : Want) where
+  found_same : (test : Test) → ((s : Symbol) → passes test s ≡ is_wanted o w s) → (offers : List ℕ) → find (passes_at o test) offers ≡ find (is_wanted_at o w) offers
+  found_same test same offers = find_same (passes_at o test) (is_wanted_at o w) (λ k. by (slice_get o.symbols k)) offers
+    where
+      by : (s : Option Symbol) → option_map_or (passes test) s false ≡ option_map_or (is_wanted o w) s false
+      by None = refl
+      by (Some s) = same s
+
+pub version_found : (o : Object) (version offers : List ℕ) (carriers : Bor (List ℕ)) → ((index : ℕ) → index < 0x8000 → is_marked carriers.now index ≡ carries o version index)
+    → find (passes_at o (tests.Version carriers)) offers ≡ find (is_wanted_at o (want.Version version)) offers
+version_found o version offers carriers marked =
+    found_same o (want.Version version) (tests.Version carriers) (λ s. ap (λ b. b || s.version == 1) (marked (version_index s) (omega arith))) offers
+
+pub just_found : (o : Object) (version offers : List ℕ) (carriers : Bor (List ℕ)) → ((index : ℕ) → index < 0x8000 → is_marked carriers.now index ≡ carries o version index)
+    → find (passes_at o (tests.Just carriers)) offers ≡ find (is_wanted_at o (want.Dlvsym version)) offers
+just_found o version offers carriers marked = found_same o (want.Dlvsym version) (tests.Just carriers) (λ s. marked (version_index s) (omega arith)) offers
+
+pub plain_found : (o : Object) (offers : List ℕ) → find (passes_at o (tests.Base 2)) offers ≡ find (is_wanted_at o want.Plain) offers
+plain_found o offers = found_same o want.Plain (tests.Base 2) (λ s. refl) offers
+
+pub dlsym_found : (o : Object) (offers : List ℕ) → find (passes_at o (tests.Base 1)) offers ≡ find (is_wanted_at o want.Dlsym) offers
+dlsym_found o offers = found_same o want.Dlsym (tests.Base 1) (λ s. twice (version_index s == 1)) offers
+  where
+    twice : (b : Bool) → (b || b) ≡ b
+    twice true = refl
+    twice false = refl
 
 -- ---- numbers that follow one another
 

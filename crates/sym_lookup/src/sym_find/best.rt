@@ -45,7 +45,7 @@ pub(crate) struct Best {
 
 impl<'a> Test<'a> {
     /// Whether the version of a definition is one that is wanted.
-    fn passes(self, symbol: &Symbol) -> bool
+    pub(crate) fn passes(self, symbol: &Symbol) -> bool
         ensures { result ≡ passes self.entry symbol.now }
     {
         let index = symbol.version_index();
