@@ -16,7 +16,7 @@ use Rattle.history_state.specs.Step.{step}
 use Rattle.history_state.specs.Memory.{role_at}
 use Rattle.history_state.specs.State.{State}
 use Rattle.history_state.specs.Lemmas.Lists.{here, later, none_in}
-use Rattle.kept_words.specs.Gone.{AllGo, AreGone, GoInOrder, Goes, HaveGone, IsOfOther, IsOfSlot}
+use Rattle.kept_words.specs.Gone.{AllGo, AreGone, GoInOrder, Goes, HaveGone, IsOfOther, IsOfSlot, OnlyGo}
 use Rattle.kept_words.specs.Staying.{leaves_memory}
 
 none_go : (ranges : List Range) (generation number : ℕ) → GoInOrder ranges generation number []
@@ -25,12 +25,16 @@ none_go ranges generation number = record { slots = []; others = []; are = refl;
 all_of_none : (role : ℕ → Role) (ranges : List Range) (gone : List Retired) → ranges ≡ [] → AllGo role ranges gone
 all_of_none role ranges gone none a covered some = absurd (none_in covered.range (subst (λ (rs : List Range). Contains rs covered.range) none covered.there))
 
+only_none : (role : ℕ → Role) → OnlyGo role []
+only_none role = record { some = λ x there. absurd (none_in x there); had = λ x a there. absurd (none_in x there); once = tt }
+
 pub goes_none : (ranges : List Range) (generation : ℕ) (k l : KeeperView) → ranges ≡ [] → l.retired ≡ k.retired → Goes ranges generation k l
 goes_none ranges generation k l none same = record {
   more = [];
   are = same ∙ sym (append-nil k.retired);
   in_order = none_go ranges generation (length k.events);
   all = all_of_none (λ a. (kept_at k (place_of a)).role) ranges [] none;
+  only = only_none (λ a. (kept_at k (place_of a)).role);
 }
 
 -- where there are no ranges nothing went
@@ -53,6 +57,7 @@ pub gone_beside : (past : List Event) (e : Event) (gone : List Retired) → take
 gone_beside past e gone none have = subst (HaveGone (past ++ e ∷ [])) (append-nil gone) (HaveGone.by_event past e gone [] have (record {
   in_order = none_go (taken (after past) e) (step (after past) e).generation (length past);
   all = all_of_none (role_at (after past)) (taken (after past) e) [] none;
+  only = only_none (role_at (after past));
 }))
 
 -- events that leave memory take nothing

@@ -1,5 +1,5 @@
 mod Asking
-mod Code
+mod Fetching
 pub mod Gone
 mod Handed
 mod Keeping

@@ -48,7 +48,7 @@ use Rattle.history_memory.specs.Lemmas.Images.{ImagesBack}
 use Rattle.hart_trails.specs.Entries.{entry_behind}
 use Rattle.hart_trails.specs.Trails.{is_granting}
 use Rattle.word_holds.specs.Shared.{IsOfState}
-use Rattle.kept_words.specs.Gone.{AllGo, HaveGone}
+use Rattle.kept_words.specs.Gone.{AllGo, HaveGone, OnlyGo}
 use Rattle.kept_words.specs.Handed.{IsIssued}
 use Rattle.kept_words.specs.Keeping.{IsRemadeView, remakes_memory}
 use Rattle.kept_words.specs.Kept.{AreKept, AreRows, AreSettled, LostHaveSeen}
@@ -326,6 +326,13 @@ module _ (w : Setting) (begun : List Event) (k l : KeeperView) (kept : AreKept w
       let role : (kept_at k (place_of a)).role ≡ role_at (after k.events) a = kept.words.role a covered.word in
       subst (RoleWent view.goes.more (place_of a)) role (view.goes.all a covered (λ none. some (sym role ∙ none)))
 
+  only_went : OnlyGo (role_at (after k.events)) view.goes.more
+  only_went = record {
+    some = view.goes.only.some;
+    had = λ x a there word place. view.goes.only.had x a there word place ∙ kept.words.role a word;
+    once = view.goes.only.once;
+  }
+
   kept_mid : AreKept w begun (handed_over h entry (counted e mid))
   kept_mid = record {
     few = kept.few;
@@ -353,7 +360,7 @@ module _ (w : Setting) (begun : List Event) (k l : KeeperView) (kept : AreKept w
         (IsIssued.of_event k.events [] e refl own is.granting (sym new.1 ∙ entry_is)))
         (handed_issued (counted e mid) h entry (view.long.0, kept.long.1) low m x there);
     handed = handed_stays begun mid h e entry (view.long.0, kept.long.1) low (begun_short w begun k kept) own (ap (λ (x : Entry). x.mark) entry_is) (ap (λ (x : Entry). x.number) entry_is) kept.handed;
-    gone = subst (HaveGone (k.events ++ e ∷ [])) (sym view.goes.are) (HaveGone.by_event k.events e k.retired view.goes.more kept.gone (record { in_order = view.goes.in_order; all = all_went }));
+    gone = subst (HaveGone (k.events ++ e ∷ [])) (sym view.goes.are) (HaveGone.by_event k.events e k.retired view.goes.more kept.gone (record { in_order = view.goes.in_order; all = all_went; only = only_went }));
   }
 
   pub remade_kept : AreKept w begun (handed_over h entry (counted e l))

@@ -1,5 +1,5 @@
--- What unmappings take away: each word of their ranges, those of slots first, at the generation and the number of events that each of them comes at. For
--- the loops that take them, and for whoever reads what a run promises.
+-- What unmappings take away: each role of a word of their ranges, those of slots first, at the generation and behind the events that each of them comes
+-- at. For the loops that take them, and for whoever reads what a run promises.
 use Rattle.std.specs.Prelude.{◌≡◌, ◌≢◌, ℕ, true, List, [], ◌∷◌, ◌++◌, length, Contains}
 use Rattle.ld_base.specs.declared.linking.Role.{Role}
 use Rattle.ld_base.specs.declared.linking.Role.TheVariants.{None as NoRole, Slot}
@@ -54,17 +54,30 @@ pub record GoInOrder (ranges : List Range) (generation number : ℕ) (gone : Lis
 abbrev pub AllGo : (ℕ → Role) → List Range → List Retired → Type 0
 AllGo role ranges gone = (a : ℕ) → IsCovered ranges a → role a ≢ NoRole → RoleWent gone (place_of a) (role a)
 
+-- no doubleword stands twice
+abbrev pub AreApart : List Retired → Type 0
+AreApart [] = Unit {0}
+AreApart (x ∷ xs) = ((y : Retired) → Contains xs y → x.at ≢ y.at) × AreApart xs
+
+-- nothing else is: each is the role that its doubleword had, once
+pub record OnlyGo (role : ℕ → Role) (gone : List Retired) : Type 0 where
+  pub some : (x : Retired) → Contains gone x → x.role ≢ NoRole
+  pub had : (x : Retired) (a : ℕ) → Contains gone x → IsDoubleword a → place_of a ≡ x.at → x.role ≡ role a
+  pub once : AreApart gone
+
 -- so they did between two views
 pub record Goes (ranges : List Range) (generation : ℕ) (k l : KeeperView) : Type 0 where
   pub more : List Retired
   pub are : l.retired ≡ k.retired ++ more
   pub in_order : GoInOrder ranges generation (length k.events) more
   pub all : AllGo (λ a. (kept_at k (place_of a)).role) ranges more
+  pub only : OnlyGo (λ a. (kept_at k (place_of a)).role) more
 
--- what went by an event behind these: the roles of the words that it takes away, and all of them, at the generation behind it
+-- what went by an event behind these: the roles of the words that it takes away, all of them and no others, at the generation behind it
 pub record WentBy (past : List Event) (e : Event) (more : List Retired) : Type 0 where
   pub in_order : GoInOrder (taken (after past) e) (step (after past) e).generation (length past) more
   pub all : AllGo (role_at (after past)) (taken (after past) e) more
+  pub only : OnlyGo (role_at (after past)) more
 
 -- all that went by these events, one after another
 pub data HaveGone : List Event → List Retired → Type 0 where

@@ -82,7 +82,7 @@ LostHaveSeen s k = (x : Granting) (saw : ℕ) (i : Linked) → Contains s.grants
 abbrev pub AreSettled : State → List ℕ → Type 0
 AreSettled s set = (g : Granting) (saw : ℕ) → Contains s.grants g → g.standing ≡ LostStanding saw → IsMapped s g.owner → Contains set g.owner → Settled s g saw
 
--- so it was before each unmapping, of the objects that went: all that lost at one of their slots saw one word
+-- so it was before each unmapping, of the objects that went
 abbrev pub WereSettled : List Event → Type 0
 WereSettled journal = (n hart : ℕ) (set : List ℕ) → slice_get journal n ≡ Some (Unmapped hart set) → AreSettled (after (take n journal)) set
 

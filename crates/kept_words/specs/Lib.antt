@@ -1,4 +1,4 @@
-pub mod Code
+pub mod Fetched
 pub mod Gone
 pub mod Handed
 pub mod Keeping

@@ -17,7 +17,7 @@ use Rattle.history_state.specs.Legal.{Whole}
 use Rattle.history_state.specs.Links.{finis_of}
 use Rattle.history_state.specs.Objects.{mapped, serial_of}
 use Rattle.history_state.specs.Setting.{Setting, are_finals}
-use Rattle.kept_words.specs.Code.{AreCode}
+use Rattle.kept_words.specs.Fetched.{AreCode}
 use Rattle.kept_words.specs.Handed.{IsIssued, event_numbers, own_numbers}
 use Rattle.kept_words.specs.Kept.{AreKept, IsFateEvent, ShowsLoss}
 use Rattle.kept_words.specs.Staying.{IsGrantEvent, number_in}
@@ -39,7 +39,8 @@ OverIsWhole = (w : Setting) (begun : List Event) (k : KeeperView)
 -- ---- a hart whose seat was joined once it had taken all
 
 -- each entry of its trail is true of the journal, and those of events are its events since the seats were made. Its exchanges that won are of its
--- grants that were bound, and its others of those that were lost, whose events show the words that they found. What it fetched is code
+-- grants that were bound, and its others of those that were lost, whose events show the words that they found. Each fetch found code,
+-- but where an executable word was taken away
 pub record TrailIsTrue (w : Setting) (begun journal : List Event) (h : ℕ) (j : HartView) : Type 0 where
   pub issued : (e : Entry) → Contains (entries_of j.trail) e → IsIssued w journal h e
   pub events : event_numbers (entries_of j.trail) ≡ own_numbers h (length begun + 1) (drop (length begun) journal)

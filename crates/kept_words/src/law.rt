@@ -107,7 +107,7 @@ pub fn remade_is_kept()
     remade_stays();
 }
 
-/// Once what became of each grant is known, and so is what each slot holds, the journal is a whole history;
+/// Once what became of each grant is known, and which one won where another was lost, the journal is a whole history;
 /// and a hart's trail that was joined once it had taken all says what the journal says.
 pub fn run_is_over()
     ensures whole { OverIsWhole }

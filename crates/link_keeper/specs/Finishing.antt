@@ -26,8 +26,8 @@ abbrev pub knows : List Event → HartView → HartView
 knows events h = record h { heard = events }
 
 -- a hart's trail beside the journal: nothing of the hart stands behind what it has heard. The trail's entries of events are the hart's events since the
--- seats were made, in order, and say what those answer; its exchanges are of its grants, one after another, and won where those were bound; and each
--- block that it read by itself is that of the last answer at its generation
+-- seats were made, in order, and say what those answer; its exchanges are of its grants, one after another, and won where those were bound; what it
+-- fetched is code, but where an executable word was taken away; and each block that it read by itself is that of the last answer at its generation
 pub record TrailIsClosed (w : Setting) (begun journal : List Event) (h : ℕ) (j : HartView) : Type 0 where
   pub number : j.number ≡ h
   pub longer : BeginsWith journal j.heard

@@ -161,8 +161,8 @@ fn saw<J: Naming>(memory: &Memory<J>, keeper: &mut KeeperSeat<J>, hart: u64) -> 
 /// What the hart's row says of its last grant, whose fate the keeper doesn't know yet. Where it is lost,
 /// the grant's slot is looked at for its word.
 ///
-/// Whoever wants to know that the slots' words are decided once all fates are known takes one
-/// [`calling`](crate::calling) after the last ask: it tells so of every slot.
+/// Whoever wants to know what came of each slot's grants once all fates are known takes one
+/// [`calling`](crate::calling) after the last ask: it tells that this is decided.
 pub fn ask<J: Naming>(memory: &Memory<J>, keeper: &mut KeeperSeat<J>, hart: HartId) -> Asked
     requires low { hart < 16 }
     requires posted { (g : Grant) × ((row_of keeper.old hart).pending ≡ Some g) }

@@ -26,16 +26,16 @@ use Rattle.word_rule.specs.Views.{kept_at, row_of, unmapped}
 use Rattle.word_access.specs.WordKeeping.Keeping.{was_shown}
 use Rattle.word_memory.specs.Roles.{MayRetire}
 use Rattle.history_state.specs.Memory.{covers}
-use Rattle.history_state.specs.Lemmas.Lists.{here, none_in, only_in}
+use Rattle.history_state.specs.Lemmas.Lists.{here, later, none_in, only_in}
 use Rattle.history_state.specs.Lemmas.Tidy.{in_at}
-use Rattle.kept_words.specs.Gone.{IsCovered, IsInside, IsOfOther, IsOfSlot}
-use Rattle.word_installs.specs.Unmapped.{HasNoRole, HasNoSlot, IsUnmapped, LostRole, MayUnmap, Retires, SlotsGoFirst}
+use Rattle.kept_words.specs.Gone.{AreApart, IsCovered, IsInside, IsOfOther, IsOfSlot}
+use Rattle.word_installs.specs.Unmapped.{HadRole, HasNoRole, HasNoSlot, IsUnmapped, LostRole, MayUnmap, Retires, SlotsGoFirst}
 use Rattle.word_installs.proofs.Places.{word_address}
 
 -- ---- what is retired
 
 pub retires_none : (which : Role → Type 0) (ranges : List Range) (k : KeeperView) → Retires which ranges k k
-retires_none which ranges k = record { more = []; are = sym (append-nil k.retired); each = λ d. inl refl; gone = λ x there. absurd (none_in x there); only = refl }
+retires_none which ranges k = record { more = []; are = sym (append-nil k.retired); each = λ d. inl refl; gone = λ x there. absurd (none_in x there); had = λ x there. absurd (none_in x there); once = tt; only = refl }
 
 pub generation_on : {which : Role → Type 0} (ranges : List Range) (k l : KeeperView) → Retires which ranges k l → l.generation ≡ k.generation
 generation_on ranges k l retires = ap (λ (v : KeeperView). v.generation) retires.only
@@ -63,6 +63,44 @@ lost_then ranges one two k l m d (inr first) (inr again) = inr (record {
   went = record { went = first.went.went; there = Contains-append_left one two first.went.went first.went.there; at = first.went.at; role_is = first.went.role_is };
 })
 
+-- lists of which none has a doubleword of another
+apart_then : (one two : List Retired) → AreApart one → AreApart two → ((x y : Retired) → Contains one x → Contains two y → x.at ≢ y.at) → AreApart (one ++ two)
+apart_then [] two first second apart = second
+apart_then (z ∷ one) two first second apart = (
+  (λ y there. ⊎_elim
+      (λ (old : Contains one y). first.0 y old)
+      (λ (new : Contains two y). apart z y (here z one) new)
+      (Contains-append_cases one two y there)),
+  apart_then one two first.1 second (λ x y in_one in_two. apart x y (later z one x in_one) in_two),
+)
+
+-- a doubleword without a role stays so
+stays_none : {which : Role → Type 0} (ranges : List Range) (k l : KeeperView) → Retires which ranges k l → (d : ℕ) → (kept_at k d).role ≡ NoRole → (kept_at l d).role ≡ NoRole
+stays_none ranges k l retires d gone = ⊎_elim
+    (λ (same : kept_at l d ≡ kept_at k d). ap (λ (x : Kept). x.role) same ∙ gone)
+    (λ (lost : LostRole ranges retires.more k l d). lost.none)
+    (retires.each d)
+
+-- what has a role had it before
+had_before : {which : Role → Type 0} (ranges : List Range) (k l : KeeperView) → Retires which ranges k l → (d : ℕ) → (kept_at l d).role ≢ NoRole → (kept_at l d).role ≡ (kept_at k d).role
+had_before ranges k l retires d some = ⊎_elim
+    (λ (same : kept_at l d ≡ kept_at k d). ap (λ (x : Kept). x.role) same)
+    (λ (lost : LostRole ranges retires.more k l d). absurd (some lost.none))
+    (retires.each d)
+
+-- roles that went, and then others: each is the one that its doubleword had first, and no doubleword stands twice
+had_then : {which other : Role → Type 0} (ranges : List Range) (k l m : KeeperView) (one : Retires which ranges k l) (two : Retires other ranges l m) → (x : Retired) → Contains (one.more ++ two.more) x → HadRole k m x
+had_then ranges k l m one two x there = ⊎_elim
+    (λ (old : Contains one.more x). let was = one.had x old in record { some = was.some; had = was.had; none = stays_none ranges l m two x.at was.none })
+    (λ (new : Contains two.more x).
+    let was = two.had x new in
+    record { some = was.some; had = was.had ∙ had_before ranges k l one x.at (λ none. was.some (was.had ∙ none)); none = was.none })
+    (Contains-append_cases one.more two.more x there)
+
+once_then : {which other : Role → Type 0} (ranges : List Range) (k l m : KeeperView) (one : Retires which ranges k l) (two : Retires other ranges l m) → AreApart (one.more ++ two.more)
+once_then ranges k l m one two = apart_then one.more two.more one.once two.once (λ x y in_one in_two same.
+    let was = two.had y in_two in was.some (was.had ∙ ap (λ (d : ℕ). (kept_at l d).role) (sym same) ∙ (one.had x in_one).none))
+
 pub retires_then : {which : Role → Type 0} (ranges : List Range) (k l m : KeeperView) → Retires which ranges k l → Retires which ranges l m → Retires which ranges k m
 retires_then ranges k l m one two = record {
   each = λ d. lost_then ranges one.more two.more k l m d (one.each d) (two.each d);
@@ -72,15 +110,10 @@ retires_then ranges k l m one two = record {
       (λ (in_one : Contains one.more x). one.gone x in_one)
       (λ (in_two : Contains two.more x). let y = two.gone x in_two in (y.0, y.1, y.2 ∙ generation_on ranges k l one, y.3 ∙ ap length (events_on ranges k l one)))
       (Contains-append_cases one.more two.more x there);
+  had = had_then ranges k l m one two;
+  once = once_then ranges k l m one two;
   only = two.only ∙ ap (λ (v : KeeperView). record v { words = m.words; shown = m.shown; retired = m.retired }) one.only;
 }
-
--- a doubleword without a role stays so
-pub stays_gone : {which : Role → Type 0} (ranges : List Range) (k l : KeeperView) → Retires which ranges k l → (d : ℕ) → (kept_at k d).role ≡ NoRole → (kept_at l d).role ≡ NoRole
-stays_gone ranges k l retires d gone = ⊎_elim
-    (λ (same : kept_at l d ≡ kept_at k d). ap (λ (x : Kept). x.role) same ∙ gone)
-    (λ (lost : LostRole ranges retires.more k l d). lost.none)
-    (retires.each d)
 
 pub stays_no_slot : {which : Role → Type 0} (ranges : List Range) (k l : KeeperView) → Retires which ranges k l → (d : ℕ) → (kept_at k d).role ≢ Slot → (kept_at l d).role ≢ Slot
 stays_no_slot ranges k l retires d none slot = ⊎_elim
@@ -116,9 +149,10 @@ may_on ranges k l retires may = record {
 
 -- ---- one doubleword
 
-pub may_retire : (ranges : List Range) (k : KeeperView) (a : ℕ) → MayUnmap k ranges → IsCovered ranges a → SlotsGoFirst ranges k a → MayRetire k a
-may_retire ranges k a may is order = record {
+pub may_retire : (ranges : List Range) (k : KeeperView) (a : ℕ) → MayUnmap k ranges → IsCovered ranges a → (kept_at k (place_of a)).role ≢ NoRole → SlotsGoFirst ranges k a → MayRetire k a
+may_retire ranges k a may is some order = record {
   at = word_address a is.word;
+  some_role = some;
   slot = λ slot. may.unposted a is;
   other = λ none. ⊎_elim (λ (slot : (kept_at k (place_of a)).role ≡ Slot). absurd (none slot)) unentered order;
 }
@@ -143,9 +177,9 @@ gone_now k l a is = ap (λ (v : KeeperView). (kept_at v (place_of a)).role) is �
 abbrev role_of : ℕ → KeeperView → Retired
 role_of d k = record { at = d; role = (kept_at k d).role; generation = k.generation; number = length k.events }
 
-pub retires_one : (which : Role → Type 0) (ranges : List Range) (k l : KeeperView) (a : ℕ) → IsCovered ranges a → which (kept_at k (place_of a)).role → l ≡ retired (place_of a) k
-    → Retires which ranges k l
-retires_one which ranges k l a covered such is = record {
+retires_one : (which : Role → Type 0) (ranges : List Range) (k l : KeeperView) (a : ℕ) → IsCovered ranges a → (kept_at k (place_of a)).role ≢ NoRole → which (kept_at k (place_of a)).role
+    → l ≡ retired (place_of a) k → Retires which ranges k l
+retires_one which ranges k l a covered some such is = record {
   each = λ d. dite (ℕ_discrete d (place_of a))
       (λ (same : d ≡ place_of a). inr (record {
         inside = (a, covered, sym same);
@@ -157,6 +191,8 @@ retires_one which ranges k l a covered such is = record {
   more = role_of (place_of a) k ∷ [];
   are = ap (λ (v : KeeperView). v.retired) is;
   gone = λ x there. subst (λ (y : Retired). which y.role × IsInside ranges y.at × (y.generation ≡ k.generation) × (y.number ≡ length k.events)) (only_in (role_of (place_of a) k) x there) (such, (a, covered, refl), refl, refl);
+  had = λ x there. subst (HadRole k l) (only_in (role_of (place_of a) k) x there) (record { some = some; had = refl; none = gone_now k l a is });
+  once = ((λ y there. absurd (none_in y there)), tt);
   only = is ∙ ap (λ (v : KeeperView). record k { words = v.words; shown = v.shown; retired = v.retired }) (sym is);
 }
 
@@ -167,6 +203,8 @@ retires_locked which ranges k l d shown is = record {
   more = [];
   are = ap (λ (v : KeeperView). v.retired) is ∙ none_gone shown ∙ sym (append-nil k.retired);
   gone = λ x there. absurd (none_in x there);
+  had = λ x there. absurd (none_in x there);
+  once = tt;
   only = is ∙ shows_only shown ∙ ap (λ (v : KeeperView). record k { words = v.words; shown = v.shown; retired = v.retired }) (sym is);
 }
   where
@@ -183,10 +221,10 @@ retires_locked which ranges k l d shown is = record {
     shows_only _ = refl
 
 -- it was taken away, or found locked
-pub retires_by : (which : Role → Type 0) (ranges : List Range) (k l : KeeperView) (a : ℕ) (result : Result Unit Shown) → IsCovered ranges a → which (kept_at k (place_of a)).role
-    → IfOk result (λ _. l ≡ retired (place_of a) k) → IfErr result (λ shown. l ≡ was_shown (place_of a) shown k) → Retires which ranges k l
-retires_by which ranges k l a (Ok x) covered such gone locked = retires_one which ranges k l a covered such gone
-retires_by which ranges k l a (Err shown) covered such gone locked = retires_locked which ranges k l (place_of a) shown locked
+pub retires_by : (which : Role → Type 0) (ranges : List Range) (k l : KeeperView) (a : ℕ) (result : Result Unit Shown) → IsCovered ranges a → (kept_at k (place_of a)).role ≢ NoRole
+    → which (kept_at k (place_of a)).role → IfOk result (λ _. l ≡ retired (place_of a) k) → IfErr result (λ shown. l ≡ was_shown (place_of a) shown k) → Retires which ranges k l
+retires_by which ranges k l a (Ok x) covered some such gone locked = retires_one which ranges k l a covered some such gone
+retires_by which ranges k l a (Err shown) covered some such gone locked = retires_locked which ranges k l (place_of a) shown locked
 
 -- ---- the doublewords of a range
 
@@ -252,7 +290,7 @@ pub gone_more : {which : Role → Type 0} (ranges : List Range) (k l : KeeperVie
     → (i : ℕ) → i < n + 1 → (kept_at l (place_of (start + 8 * i))).role ≡ NoRole
 gone_more ranges k l start n retires front new i low = dite (ℕ_discrete i n)
     (λ (same : i ≡ n). ap (λ (j : ℕ). (kept_at l (place_of (start + 8 * j))).role) same ∙ new)
-    (λ (apart : i ≢ n). stays_gone ranges k l retires (place_of (start + 8 * i)) (front i (omega (arith, low, apart))))
+    (λ (apart : i ≢ n). stays_none ranges k l retires (place_of (start + 8 * i)) (front i (omega (arith, low, apart))))
 
 pub no_slot_more : {which : Role → Type 0} (ranges : List Range) (k l : KeeperView) (start n : ℕ) → Retires which ranges k l
     → ((i : ℕ) → i < n → (kept_at k (place_of (start + 8 * i))).role ≢ Slot) → (kept_at l (place_of (start + 8 * n))).role ≢ Slot
@@ -287,7 +325,7 @@ pub all_no_slot : (ranges : List Range) (n : ℕ) (l : KeeperView) → length ra
 all_no_slot ranges n l past front a is = let at = one_of ranges a is in let low : at.0 < length ranges = at.2 in front at.0 at.1 (omega (arith, low, past)) at.3 a at.4
 
 pub no_role_on : {which : Role → Type 0} (ranges : List Range) (k l : KeeperView) → Retires which ranges k l → (r : Range) → HasNoRole (r ∷ []) k → HasNoRole (r ∷ []) l
-no_role_on ranges k l retires r gone a is = stays_gone ranges k l retires (place_of a) (gone a is)
+no_role_on ranges k l retires r gone a is = stays_none ranges k l retires (place_of a) (gone a is)
 
 pub no_slot_on : {which : Role → Type 0} (ranges : List Range) (k l : KeeperView) → Retires which ranges k l → (r : Range) → HasNoSlot (r ∷ []) k → HasNoSlot (r ∷ []) l
 no_slot_on ranges k l retires r gone a is = stays_no_slot ranges k l retires (place_of a) (gone a is)
@@ -299,7 +337,7 @@ may_later ranges k l generation is may = subst (λ (v : KeeperView). MayUnmap v 
 
 -- of which kind the roles were is left out
 of_any : {which : Role → Type 0} (ranges : List Range) (k l : KeeperView) → Retires which ranges k l → Retires (λ _. Unit {0}) ranges k l
-of_any ranges k l retires = record { each = retires.each; more = retires.more; are = retires.are; gone = λ x there. let y = retires.gone x there in (tt, y.1, y.2, y.3); only = retires.only }
+of_any ranges k l retires = record { each = retires.each; more = retires.more; are = retires.are; gone = λ x there. let y = retires.gone x there in (tt, y.1, y.2, y.3); had = retires.had; once = retires.once; only = retires.only }
 
 pub is_unmapped : (ranges : List Range) (k l m n : KeeperView) (generation : ℕ) → l ≡ record k { generation = generation } → AreDecided k → Retires IsOfSlot ranges l m → Retires IsOfOther ranges m n
     → HasNoRole ranges n → IsUnmapped ranges k n
@@ -321,6 +359,11 @@ is_unmapped ranges k l m n generation is decided one two gone = record {
         (λ (same : kept_at n (place_of a) ≡ kept_at l (place_of a)). absurd (some (sym (ap (λ (x : Kept). x.role) same ∙ was a) ∙ gone a covered)))
         (λ (lost : LostRole ranges both.more l n (place_of a)). subst (RoleWent both.more (place_of a)) (was a) lost.went)
         (both.each (place_of a));
+    only = record {
+      some = λ x there. (both.had x there).some;
+      had = λ x a there word place. (both.had x there).had ∙ ap (λ (d : ℕ). (kept_at l d).role) (sym place) ∙ was a;
+      once = both.once;
+    };
   };
   decided = λ r there. decided;
   only = both.only ∙ ap (λ (v : KeeperView). record v { words = n.words; shown = n.shown; retired = n.retired }) is

@@ -11,7 +11,7 @@ use Rattle.word_rule.specs.Fetches.{RoleWent}
 use Rattle.word_rule.specs.KeeperSteps.{AreDecided, Unposted}
 use Rattle.word_rule.specs.Layout.{place_of}
 use Rattle.word_rule.specs.Views.{kept_at, row_of}
-use Rattle.kept_words.specs.Gone.{AreGone, Goes, IsCovered, IsInside, IsOutside}
+use Rattle.kept_words.specs.Gone.{AreApart, AreGone, Goes, IsCovered, IsInside, IsOutside}
 
 -- no slot is left in them
 abbrev pub HasNoSlot : List Range → KeeperView → Type 0
@@ -27,10 +27,16 @@ pub record MayUnmap (k : KeeperView) (ranges : List Range) : Type 0 where
   pub unentered : (a d value : ℕ) → IsCovered ranges a → IsOutside ranges d → IsSlot (kept_at k) d → IsAllowed (kept_at k) (row_of k) d value
       → (value ≡ 0) ⊎ (place_of value ≢ place_of a)
 
--- whose role goes next: a slot's, or, once no slot of these ranges is left, another doubleword's. So at no moment has a word gone that a slot of
+-- whose role goes next, if it has one: a slot's, or, once no slot of these ranges is left, another doubleword's. So at no moment has a word gone that a slot of
 -- the ranges may lead to
 abbrev pub SlotsGoFirst : List Range → KeeperView → ℕ → Type 0
 SlotsGoFirst ranges k a = ((kept_at k (place_of a)).role ≡ Slot) ⊎ HasNoSlot ranges k
+
+-- what went is the role that its doubleword had, which has none any more
+pub record HadRole (k l : KeeperView) (x : Retired) : Type 0 where
+  pub some : x.role ≢ NoRole
+  pub had : x.role ≡ (kept_at k x.at).role
+  pub none : (kept_at l x.at).role ≡ NoRole
 
 -- a doubleword of these ranges lost the role that it had, and has none
 pub record LostRole (ranges : List Range) (gone : List Retired) (k l : KeeperView) (d : ℕ) : Type 0 where
@@ -45,6 +51,8 @@ pub record Retires (which : Role → Type 0) (ranges : List Range) (k l : Keeper
   pub are : l.retired ≡ k.retired ++ more
   pub each : (d : ℕ) → (kept_at l d ≡ kept_at k d) ⊎ LostRole ranges more k l d
   pub gone : AreGone which ranges k.generation (length k.events) more
+  pub had : (x : Retired) → Contains more x → HadRole k l x
+  pub once : AreApart more
   pub only : l ≡ record k { words = l.words; shown = l.shown; retired = l.retired }
 
 -- no doubleword of these ranges has a role any more, and all others are as they were. Roles went in order, at the generation that is set then; and

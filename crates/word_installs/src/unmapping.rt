@@ -12,7 +12,9 @@ ghost use Rattle.word_installs.specs.Unmapped.{HasNoRole, HasNoSlot, IsUnmapped,
 use history_event::Range;
 use ld_base::Shown;
 use std::sync::Wait;
-use word_memory::{KeeperSeat, Memory, Naming, is_slot, latest_generation, retire, set_generation};
+use word_memory::{
+    KeeperSeat, Memory, Naming, has_role, is_slot, latest_generation, retire, set_generation,
+};
 
 /// How many doublewords a page has.
 const PAGE_WORDS: u64 = 512;
@@ -136,7 +138,7 @@ fn retire_others_in<R: Wait, J: Naming>(
     }
 }
 
-/// Takes a doubleword's role away, once no hart has locked it.
+/// Takes a doubleword's role away, if it has one, once no hart has locked it.
 fn retire_other<R: Wait, J: Naming>(
     rt: &R,
     memory: &Memory<J>,
@@ -151,6 +153,9 @@ fn retire_other<R: Wait, J: Naming>(
     ensures retires { Retires IsOfOther ranges.now keeper.old keeper.new }
 {
     for _ in rt.forever() {
+        if !has_role(memory, keeper, address) {
+            return;
+        }
         if retire_in(memory, keeper, ranges, address).is_ok() {
             return;
         }
@@ -171,6 +176,7 @@ fn retire_in<J: Naming>(
 ) -> Result<(), Shown>
     requires may { MayUnmap keeper.old _ranges.now }
     requires covered { IsCovered _ranges.now address }
+    requires some_role { (kept_at keeper.old (place_of address)).role ≢ NoRole }
     requires order { SlotsGoFirst _ranges.now keeper.old address }
     ensures gone { IfOk result (λ _. keeper.new ≡ retired (place_of address) keeper.old) }
     ensures locked { IfErr result (λ shown. keeper.new ≡ was_shown (place_of address) shown keeper.old) }

@@ -15,8 +15,9 @@ pub record MaySet (k : KeeperView) (address value : ℕ) (role : Role) : Type 0 
   pub some_role : role ≢ NoRole
   pub leads : role ≡ SlotRole → LeadsTo (kept_at k) value
 
--- a role may be taken away: no grant is open of a slot, and nothing enters another doubleword
+-- a doubleword's role may be taken away: it has one, no grant is open of a slot, and nothing enters another doubleword
 pub record MayRetire (k : KeeperView) (address : ℕ) : Type 0 where
   pub at : IsDoubleword address
+  pub some_role : (kept_at k (place_of address)).role ≢ NoRole
   pub slot : (kept_at k (place_of address)).role ≡ SlotRole → Unposted k (place_of address)
   pub other : (kept_at k (place_of address)).role ≢ SlotRole → NothingEnters (kept_at k) (row_of k) (place_of address)

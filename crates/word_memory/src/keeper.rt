@@ -1,7 +1,7 @@
 //! The keeper's seat between its calls, and what it does with doublewords, events and harts.
 
-ghost use Rattle.std.specs.Prelude.{◌≡◌, ◌<◌, ◌+◌, ◌↔◌, ℕ, IfErr, IfOk, IsOk, IsTrue, Some, length};
-ghost use Rattle.ld_base.specs.declared.linking.Role.TheVariants.{Rw, Slot};
+ghost use Rattle.std.specs.Prelude.{◌≡◌, ◌≢◌, ◌<◌, ◌+◌, ◌↔◌, ℕ, IfErr, IfOk, IsOk, IsTrue, Some, length};
+ghost use Rattle.ld_base.specs.declared.linking.Role.TheVariants.{None as NoRole, Rw, Slot};
 ghost use Rattle.word_rule.specs.declared.view.Offer.{Offer};
 ghost use Rattle.word_rule.specs.Joining.{IsSettled};
 ghost use Rattle.word_rule.specs.KeeperSteps.{AreDecided, KeeperLearns, KeeperLeaves, KeeperReady, keeper_after, keeper_op, keeper_word, retired};
@@ -64,7 +64,8 @@ pub fn set_word<J: Naming>(
         value,
         role,
         lazy,
-    )
+    );
+    Ok(())
 }
 
 /// Takes a doubleword's role away.
@@ -152,6 +153,19 @@ pub fn is_slot<J: Naming>(memory: &Memory<J>, keeper: &mut KeeperSeat<J>, addres
     let kind = KeeperKind::RecallRole(at as u64);
     let control = keeper.load_word(memory, control_word(at), kind);
     matches!(role_of(control), Role::Slot)
+}
+
+/// Whether a doubleword has a role.
+#[tactic(auto, using(word_rule::specs::Lemmas::Unlocking::role_is, word_rule::specs::Lemmas::Heeding::heeds))]
+pub fn has_role<J: Naming>(memory: &Memory<J>, keeper: &mut KeeperSeat<J>, address: u64) -> bool
+    requires { IsDoubleword address }
+    ensures keeper { keeper.new ≡ keeper.old }
+    ensures role { IsTrue result ↔ (kept_at keeper.old (place_of address)).role ≢ NoRole }
+{
+    let at = place_at(address);
+    let kind = KeeperKind::RecallRole(at as u64);
+    let control = keeper.load_word(memory, control_word(at), kind);
+    !matches!(role_of(control), Role::None)
 }
 
 impl<J: Naming> KeeperSeat<J> {

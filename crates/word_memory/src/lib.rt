@@ -22,8 +22,8 @@ mod word_seats;
 
 pub use bus::TableBus;
 pub use keeper::{
-    KeeperSeat, count_up, is_slot, join_hart, latest_generation, retire, set_generation, set_word,
-    tell,
+    KeeperSeat, count_up, has_role, is_slot, join_hart, latest_generation, retire, set_generation,
+    set_word, tell,
 };
 pub use seat::{HartSeat, generation};
 pub use word_seats::{HartSeats, Seats, name_memory};

@@ -1,4 +1,4 @@
--- What harts run: words of RX doublewords, as the keeper knows them.
+-- What harts run: words of RX doublewords, as the keeper knows them, unless a role of theirs went.
 use Rattle.std.specs.Prelude.{◌≡◌, ◌⊎◌, ℕ, List, Some, Ok, Contains}
 use Rattle.ld_base.specs.declared.linking.Role.{Role}
 use Rattle.ld_base.specs.declared.linking.Role.TheVariants.{Rx}
@@ -9,6 +9,7 @@ use Rattle.word_rule.specs.declared.view.Kept.{Kept}
 use Rattle.word_rule.specs.declared.view.Retired.{Retired}
 use Rattle.word_rule.specs.declared.view.TrailItem.{TrailItem}
 use Rattle.word_rule.specs.declared.view.TrailItem.TheVariants.{Call}
+use Rattle.word_rule.specs.HartSteps.{IsAsked}
 use Rattle.word_rule.specs.Layout.{place_of, role_in}
 
 -- the doubleword lost this role
@@ -18,13 +19,15 @@ pub record RoleWent (gone : List Retired) (d : ℕ) (role : Role) : Type 0 where
   pub at : went.at ≡ d
   pub role_is : went.role ≡ role
 
--- the doubleword may be run, or no longer
+-- the doubleword may be run, or lost the role once by which it might
 abbrev pub IsCode : (ℕ → Kept) → List Retired → ℕ → Type 0
 IsCode known gone d = ((known d).role ≡ Rx) ⊎ RoleWent gone d Rx
 
--- these four bytes at an address are those of an RX doubleword's word, or of a doubleword that was RX and is no more
+-- an instruction may lie at the address, and these four bytes are those of an RX doubleword's word there; or the doubleword lost that role once, and
+-- of the bytes nothing is said
 abbrev pub FoundCode : (ℕ → Kept) → List Retired → ℕ → ℕ → Type 0
-FoundCode known gone a bits = let d = place_of a in (((known d).role ≡ Rx) × (bits ≡ bytes_in (known d).value a 4)) ⊎ RoleWent gone d Rx
+FoundCode known gone a bits = let d = place_of a in
+    IsAsked a 4 × ((((known d).role ≡ Rx) × (bits ≡ bytes_in (known d).value a 4)) ⊎ RoleWent gone d Rx)
 
 -- so it is with each fetch in a trail that was answered
 abbrev pub AreFetched : (ℕ → Kept) → List Retired → List TrailItem → Type 0

@@ -187,7 +187,7 @@ KeeperReady (kinds.Open m) k =
     × IsPostable (kept_at k) (grant_in (row_of k m)) × (k.access.locked ≡ None)
 KeeperReady (kinds.RetireSlot d) k = (k.access.locked ≡ Some d) × ((kept_at k d).role ≡ SlotRole)
 KeeperReady (kinds.Retire d old) k =
-    (k.access.locked ≡ Some d) × (old ≡ (kept_at k d).role) × (old ≢ SlotRole) × NothingEnters (kept_at k) (row_of k) d
+    (k.access.locked ≡ Some d) × (old ≡ (kept_at k d).role) × (old ≢ SlotRole) × (old ≢ NoRole) × NothingEnters (kept_at k) (row_of k) d
 KeeperReady (kinds.Generation g) k = k.generation < g
 KeeperReady (kinds.Recall m i) k = m < harts_at_most
 KeeperReady kinds.RecallGeneration k = Unit {0}
@@ -248,7 +248,7 @@ pub record AreJoinedOnce (k : KeeperView) : Type 0 where
   pub once : (i n : ℕ) (j l : HartView) → slice_get k.joined i ≡ Some j → slice_get k.joined n ≡ Some l → j.number ≡ l.number → i ≡ n
 
 -- it has taken all that was issued to it, and its row has no call; the fates of its grants are those of its exchanges, which found what
--- was seen of those that it lost; each of its readings of the generation has the last block before it; and what it ran is code
+-- was seen of those that it lost; each of its readings of the generation has the last block before it; and each fetch found code, but where a role went
 pub record HasTakenAll (k : KeeperView) (m n : ℕ) (j : HartView) : Type 0 where
   pub taken : j.lane.taken ≡ (row_of k m).issued
   pub entries : entries_of j.trail ≡ j.lane.taken
@@ -285,7 +285,7 @@ pub record TellsSlot (k : KeeperView) (d n : ℕ) : Type 0 where
   pub won : (m : ℕ) (g : Grant) → m < harts_at_most → IsWon (row_of k m) g → IsOf (kept_at k) d g → n ≡ g.entry.value
   pub bound : (kept_at k d).value ≢ (kept_at k d).lazy → n ≡ (kept_at k d).value
 
--- so each slot is
+-- what came of the grants of each slot is decided, as far as their fates are known
 abbrev pub AreDecided : KeeperView → Type 0
 AreDecided k = (d : ℕ) → IsSlot (kept_at k) d → IsDecided (kept_at k) (row_of k) d
 

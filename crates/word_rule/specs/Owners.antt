@@ -60,7 +60,7 @@ OnlyOwnersChange =
     × ((kind : KeeperKind) (k : KeeperView) (d : ℕ) → KeeperReady kind k → keeper_op kind ≢ load
     → IsOfDoubleword d (keeper_word kind) → (k.access.locked ≡ Some d) ⊎ KeeperEnters kind d)
 
--- the keeper changes the value of a doubleword only where it has no role: it is about to be mapped
+-- the keeper changes the value of a doubleword only where it has no role
 abbrev pub OnlyFreshAreStored : Type 0
 OnlyFreshAreStored =
     (kind : KeeperKind) (k : KeeperView) (d : ℕ) → KeeperReady kind k → keeper_op kind ≢ load → keeper_word kind ≡ value_at d → (kept_at k d).role ≡ NoRole

@@ -59,8 +59,8 @@ pub fn rows_have_owners()
 {}
 
 /// An exchange stays in its trail: a step leaves each trail as it was, or with one item behind it. And a
-/// doubleword that has a role stays the same while it has one, with its image's word, its lazy word and the
-/// count at its start. So what [`rule_comes_to`] says of an exchange holds on while its slot is there.
+/// doubleword that has a role stays the one that the keeper knows while it has it, with its image's word,
+/// its lazy word and the count at its start. So what [`rule_comes_to`] says of an exchange holds on while its slot is there.
 pub fn exchanges_stay()
     ensures trails { TrailsGrow }
     ensures words { WordsStay }
@@ -119,8 +119,9 @@ pub fn worked_steps()
     ensures rows { RowGoesRound }
 {}
 
-/// What the rule comes to: whose views there are, who has locked what and what unlocked words hold, that a slot has the word
-/// that its one winner left, what the count, rows and entries say, and the generation.
+/// What the rule comes to: whose views there are, who has locked what, what RO and RX words hold and what
+/// fetches found, that a slot has the word that its one winner left, what the count, rows and entries say,
+/// and the generation.
 pub fn rule_comes_to()
     ensures { (words : List ℕ) (views : List View) (g : IsGuest words views) → Clauses words views g.kept g.hart }
 {}

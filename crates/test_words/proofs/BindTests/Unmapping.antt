@@ -56,6 +56,7 @@ module _ (k : KeeperView) (stocked : IsStocked (kept_at k)) (settled : (m : ℕ)
   pub may_take_slot : MayRetire k 0x37010
   may_take_slot = record {
     at = ((omega arith, low_place (place_of 0x37010) 19970 slot_place (omega arith)), omega arith);
+    some_role = λ none. let q : SlotRole ≡ NoRole = sym stocked.role ∙ none in absurd (cc);
     slot = λ _ m g e at. let q : Nothing ≡ Some g = sym (settled m) ∙ e in absurd (cc);
     other = λ no. absurd (no stocked.role);
   }
@@ -82,6 +83,7 @@ module _ (k : KeeperView) (address : ℕ) (at : IsDoubleword address) (code : (k
   may_take : ((d : ℕ) → ¬ (IsSlot (kept_at k) d)) → MayRetire k address
   may_take none' = record {
     at = at;
+    some_role = λ none. let q : Rx ≡ NoRole = sym code ∙ none in absurd (cc);
     slot = λ e. let q : Rx ≡ SlotRole = sym code ∙ e in absurd (cc);
     other = λ _ e v is allowed. absurd (none' e is);
   }

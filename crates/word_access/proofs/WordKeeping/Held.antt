@@ -164,15 +164,16 @@ retiring_op d Rx = refl
 retiring_op d Rw = refl
 retiring_op d SlotRole = refl
 
-pub retire_ready : (d : ℕ) (r : Role) (k k1 : KeeperView) → k1 ≡ has_locked d k → r ≡ (kept_at k d).role → ((kept_at k d).role ≢ SlotRole → NothingEnters (kept_at k) (row_of k) d) → KeeperReady (retiring d r) k1
-retire_ready d r k k1 locked is other = subst (KeeperReady (retiring d r)) (sym locked) (go r is)
+pub retire_ready : (d : ℕ) (r : Role) (k k1 : KeeperView) → k1 ≡ has_locked d k → r ≡ (kept_at k d).role → (kept_at k d).role ≢ NoRole → ((kept_at k d).role ≢ SlotRole → NothingEnters (kept_at k) (row_of k) d)
+    → KeeperReady (retiring d r) k1
+retire_ready d r k k1 locked is some other = subst (KeeperReady (retiring d r)) (sym locked) (go r is)
   where
     go : (r : Role) → r ≡ (kept_at k d).role → KeeperReady (retiring d r) (has_locked d k)
     go SlotRole is = (refl, sym is)
-    go NoRole is = let apart : NoRole ≢ SlotRole = (λ e. absurd (cc)) in (refl, is, apart, other (λ e. apart (is ∙ e)))
-    go Ro is = let apart : Ro ≢ SlotRole = (λ e. absurd (cc)) in (refl, is, apart, other (λ e. apart (is ∙ e)))
-    go Rx is = let apart : Rx ≢ SlotRole = (λ e. absurd (cc)) in (refl, is, apart, other (λ e. apart (is ∙ e)))
-    go Rw is = let apart : Rw ≢ SlotRole = (λ e. absurd (cc)) in (refl, is, apart, other (λ e. apart (is ∙ e)))
+    go NoRole is = absurd (some (sym is))
+    go Ro is = let apart : Ro ≢ SlotRole = (λ e. absurd (cc)) in (refl, is, apart, (λ e. absurd (cc)), other (λ e. apart (is ∙ e)))
+    go Rx is = let apart : Rx ≢ SlotRole = (λ e. absurd (cc)) in (refl, is, apart, (λ e. absurd (cc)), other (λ e. apart (is ∙ e)))
+    go Rw is = let apart : Rw ≢ SlotRole = (λ e. absurd (cc)) in (refl, is, apart, (λ e. absurd (cc)), other (λ e. apart (is ∙ e)))
 
 pub retires : (d n : ℕ) (r : Role) (k k1 k2 : KeeperView) → IsResting k → k1 ≡ has_locked d k → k2 ≡ keeper_after (retiring d r) k1 n → k2 ≡ retired d k
 retires d n r k k1 k2 rest locked is = is ∙ (ap (λ k. keeper_after (retiring d r) k n) locked ∙ go r)

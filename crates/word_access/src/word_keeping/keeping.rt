@@ -1,6 +1,6 @@
 //! How the keeper changes a doubleword: it locks it, stores, and unlocks it with a role.
 
-ghost use Rattle.std.specs.Prelude.{◌≡◌, ◌≢◌, ◌%◌, ◌<◌, IfErr, IfOk, IsOk};
+ghost use Rattle.std.specs.Prelude.{◌≡◌, ◌≢◌, ◌%◌, ◌<◌, IfErr, IfOk};
 ghost use Rattle.ld_base.specs.declared.linking.Role.TheVariants.{None as NoRole, Rw, Slot as SlotRole};
 ghost use Rattle.word_rule.specs.Allowed.{LeadsTo, NothingEnters};
 ghost use Rattle.word_rule.specs.KeeperSteps.{Unposted, retired};
@@ -58,11 +58,8 @@ fn lock<J: Naming>(memory: &Memory<J>, desk: &mut Desk<J>, at: usize) -> Result<
     Ok(role_of(control))
 }
 
-/// Gives a doubleword that has no role a value and a role, and a slot its lazy word.
-///
-/// # Errors
-///
-/// None comes, since no other seat locks a doubleword without a role.
+/// Gives a doubleword that has no role a value and a role, and a slot its lazy word. No other seat locks a
+/// doubleword without a role.
 #[tactic(auto, using(crate::proofs::WordKeeping::Held::set_ready, crate::proofs::WordKeeping::Held::sets))]
 pub fn set<J: Naming>(
     memory: &Memory<J>,
@@ -71,17 +68,18 @@ pub fn set<J: Naming>(
     value: u64,
     role: Role,
     lazy: u64,
-) -> Result<(), Shown>
+)
     requires at { at < doublewords }
     requires resting { IsResting desk.old }
     requires fresh { (kept_at desk.old at).role ≡ NoRole }
     requires some_role { role ≢ NoRole }
     requires leads { role ≡ SlotRole → LeadsTo (kept_at desk.old) value }
     ensures set { desk.new ≡ set_as at value role lazy desk.old }
-    ensures ok { IsOk result }
     ensures long { IsLong desk.old }
 {
-    lock(memory, desk, at)?;
+    let Ok(_) = lock(memory, desk, at) else {
+        unreachable!()
+    };
     desk.store_word(
         memory,
         value_word(at),
@@ -90,10 +88,9 @@ pub fn set<J: Naming>(
     );
     let kind = KeeperKind::Unlock(at as u64, role, lazy);
     desk.add_word(memory, control_word(at), LOCK + code_of(role), kind);
-    Ok(())
 }
 
-/// Takes a doubleword's role away. No grant is open of a slot, and nothing enters another one.
+/// Takes a doubleword's role away. No grant is open of a slot, and nothing enters another doubleword.
 ///
 /// # Errors
 ///
@@ -103,6 +100,7 @@ pub fn set<J: Naming>(
 pub fn retire<J: Naming>(memory: &Memory<J>, desk: &mut Desk<J>, at: usize) -> Result<(), Shown>
     requires at { at < doublewords }
     requires resting { IsResting desk.old }
+    requires some_role { (kept_at desk.old at).role ≢ NoRole }
     requires slot { (kept_at desk.old at).role ≡ SlotRole → Unposted desk.old at }
     requires other { (kept_at desk.old at).role ≢ SlotRole → NothingEnters (kept_at desk.old) (row_of desk.old) at }
     ensures ok { IfOk result (λ _. desk.new ≡ retired at desk.old) }

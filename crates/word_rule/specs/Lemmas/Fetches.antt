@@ -31,7 +31,7 @@ use Rattle.word_rule.specs.declared.view.TrailItem.{TrailItem}
 use Rattle.word_rule.specs.declared.view.TrailItem.TheVariants.{Call, Took, Exchanged, Done, Generation as ReadGeneration}
 use Rattle.word_rule.specs.Layout.{control_at, doublewords, lock_bit, place_of, role_code, role_in, value_at}
 use Rattle.word_rule.specs.Views.{kept_at, put, unmapped}
-use Rattle.word_rule.specs.HartSteps.{HartReady, Asked, ask_is_fresh, ask_place, failed, glanced, hart_after, hart_word, heeded, last_control, load_permits, load_place, load_refused, loaded, locked_if, looked, permits, refused, store_place, store_refused, stored}
+use Rattle.word_rule.specs.HartSteps.{HartReady, Asked, IsAsked, ask_is_fresh, ask_place, failed, glanced, hart_after, hart_word, heeded, last_control, load_permits, load_place, load_refused, loaded, locked_if, looked, permits, refused, store_place, store_refused, stored}
 use Rattle.word_rule.specs.KeeperSteps.{KeeperReady, awaited_if, fixed_by, heeding, keeper_after, keeps_if, retired, with_kept}
 use Rattle.word_rule.specs.Words.{Holds, Words}
 use Rattle.word_rule.specs.Fetches.{AreFetched, Fetches, FoundCode, IsCode, RoleWent}
@@ -119,11 +119,14 @@ module _ (known : ℕ → Kept) (gone : List Retired) where
     asked_low (Stores ask) a = a.0.1
 
     -- the word of an RX doubleword is the one that the keeper knows
-    code_found : (a : ℕ) → place_of a < doublewords → IsCode known gone (place_of a) → FoundCode known gone a (bytes_in (word (value_at (place_of a))) a 4)
-    code_found a low code = ⊎_elim
-        (λ (rx : (known (place_of a)).role ≡ Rx). inl (rx, ap (λ n. bytes_in n a 4) (subst (λ r. Holds r (known (place_of a)).value (word (value_at (place_of a)))) rx (w.each_word (place_of a) low).holds)))
-        (λ (went : RoleWent gone (place_of a) Rx). inr went)
-        code
+    code_found : (a : ℕ) → IsAsked a 4 → IsCode known gone (place_of a) → FoundCode known gone a (bytes_in (word (value_at (place_of a))) a 4)
+    code_found a asked code = (
+      asked,
+      ⊎_elim
+          (λ (rx : (known (place_of a)).role ≡ Rx). inl (rx, ap (λ n. bytes_in n a 4) (subst (λ r. Holds r (known (place_of a)).value (word (value_at (place_of a)))) rx (w.each_word (place_of a) asked.0.1).holds)))
+          (λ (went : RoleWent gone (place_of a) Rx). inr went)
+          code,
+    )
 
     loads : (ask : LoadAsk) → HartReady (kinds.Load ask) h → AreFetched known gone (h.trail ++ Call (loaded ask (last_control h.access.last) (word (value_at (load_place ask)))) ∷ [])
     loads (Read a size) ready b bits there = adds h.trail _ (λ b bits e. absurd (cc)) old.fetched b bits there
@@ -134,7 +137,7 @@ module _ (known : ℕ → Kept) (gone : List Retired) where
         let same : a ≡ b = cc in
         let found : bytes_in (word (value_at (place_of a))) a 4 ≡ bits = cc in
         subst (λ (p : ℕ × ℕ). FoundCode known gone p.0 p.1) (λ i. (same i, found i))
-        (code_found a ready.0.0.1 (old.looked (place_of a) ready.2.0 ready.2.1 (fetch_role (role_in ready.2.0) ready.2.3))))
+        (code_found a ready.0 (old.looked (place_of a) ready.2.0 ready.2.1 (fetch_role (role_in ready.2.0) ready.2.3))))
         (Contains-push_cases h.trail (Call (items.Fetch a (Ok (bytes_in (word (value_at (place_of a))) a 4)))) (Call (items.Fetch b (Ok bits))) there)
 
     own_fetches : (kind : HartKind) → HartReady kind h → OfHart (hart_after kind h (word (hart_word kind))).access (hart_after kind h (word (hart_word kind))).trail
@@ -182,13 +185,16 @@ fetches_stay known known' gone gone' access trail stays f = record {
       (λ (code : (known d).role ≡ Rx). ⊎_elim (λ (here : ((known' d).role ≡ Rx) × ((known' d).value ≡ (known d).value)). inl here.0) (λ (w : RoleWent gone' d Rx). inr w) (stays.code d code))
       (λ (w : RoleWent gone d Rx). inr (went d w))
       (f.looked m d control e rx);
-  fetched = λ m a bits there. ⊎_elim
-      (λ (found : ((known (place_of a)).role ≡ Rx) × (bits ≡ bytes_in (known (place_of a)).value a 4)). ⊎_elim
-      (λ (here : ((known' (place_of a)).role ≡ Rx) × ((known' (place_of a)).value ≡ (known (place_of a)).value)). inl (here.0, found.1 ∙ ap (λ n. bytes_in n a 4) (sym here.1)))
-      (λ (w : RoleWent gone' (place_of a) Rx). inr w)
-      (stays.code (place_of a) found.0))
-      (λ (w : RoleWent gone (place_of a) Rx). inr (went (place_of a) w))
-      (f.fetched m a bits there);
+  fetched = λ m a bits there. let was = f.fetched m a bits there in (
+    was.0,
+    ⊎_elim
+        (λ (found : ((known (place_of a)).role ≡ Rx) × (bits ≡ bytes_in (known (place_of a)).value a 4)). ⊎_elim
+        (λ (here : ((known' (place_of a)).role ≡ Rx) × ((known' (place_of a)).value ≡ (known (place_of a)).value)). inl (here.0, found.1 ∙ ap (λ n. bytes_in n a 4) (sym here.1)))
+        (λ (w : RoleWent gone' (place_of a) Rx). inr w)
+        (stays.code (place_of a) found.0))
+        (λ (w : RoleWent gone (place_of a) Rx). inr (went (place_of a) w))
+        was.1,
+  );
 }
   where
     went : (d : ℕ) → RoleWent gone d Rx → RoleWent gone' d Rx

@@ -1,4 +1,4 @@
--- What harts run: words of the images that the journal has. For whoever reads what a run promises.
+-- What harts fetched: words of the images that the journal has, but where an executable word was taken away. For whoever reads what a run promises.
 use Rattle.std.specs.Prelude.{◌≡◌, ℕ, List, take, Ok, Some, Contains}
 use Rattle.std.specs.List.{slice_get}
 use Rattle.ld_base.specs.declared.linking.Role.TheVariants.{Rx}
@@ -7,26 +7,30 @@ use Rattle.rv_hart.specs.declared.bus.Item.TheVariants.{Fetch}
 use Rattle.history_event.specs.declared.event.Event.{Event}
 use Rattle.word_rule.specs.declared.view.TrailItem.{TrailItem}
 use Rattle.word_rule.specs.declared.view.TrailItem.TheVariants.{Call}
+use Rattle.word_rule.specs.HartSteps.{IsAsked}
 use Rattle.word_rule.specs.Layout.{place_of}
 use Rattle.history_state.specs.After.{after}
 use Rattle.history_state.specs.Changes.{taken}
 use Rattle.history_state.specs.Memory.{first_word_at, role_at}
-use Rattle.history_memory.specs.Memory.{IsDoubleword}
-use Rattle.kept_words.specs.Gone.{IsInside}
+use Rattle.history_memory.specs.Memory.{doubleword_of}
+use Rattle.kept_words.specs.Gone.{IsCovered}
 
--- an event of the journal took the doubleword away
+-- an event of the journal took the doubleword away, which could be run
 pub record WasTaken (journal : List Event) (d : ℕ) : Type 0 where
   pub number : ℕ
   pub event : Event
   pub at : slice_get journal number ≡ Some event
-  pub inside : IsInside (taken (after (take number journal)) event) d
+  pub address : ℕ
+  pub covered : IsCovered (taken (after (take number journal)) event) address
+  pub place : place_of address ≡ d
+  pub role : role_at (after (take number journal)) address ≡ Rx
 
--- four bytes at an address are code: those of an RX word of what is mapped; or what they were of was unmapped
+-- what a fetch found: an instruction may lie at the address, and these are four bytes of an RX word there of what is mapped; or an RX word was taken
+-- away there, and of the bytes nothing is said
 pub data IsCodeAt (journal : List Event) (a bits : ℕ) : Type 0 where
-  mapped : (b : ℕ) → IsDoubleword b → place_of b ≡ place_of a → role_at (after journal) b ≡ Rx → bits ≡ lane (first_word_at (after journal) b) a 4
-      → IsCodeAt journal a bits
-  unmapped : WasTaken journal (place_of a) → IsCodeAt journal a bits
+  mapped : IsAsked a 4 → role_at (after journal) (doubleword_of a) ≡ Rx → bits ≡ lane (first_word_at (after journal) (doubleword_of a)) a 4 → IsCodeAt journal a bits
+  unmapped : IsAsked a 4 → WasTaken journal (place_of a) → IsCodeAt journal a bits
 
--- so are those of each fetch in a trail that was answered
+-- so it is with each fetch in a trail that was answered
 abbrev pub AreCode : List Event → List TrailItem → Type 0
 AreCode journal trail = (a bits : ℕ) → Contains trail (Call (Fetch a (Ok bits))) → IsCodeAt journal a bits
