@@ -311,7 +311,7 @@ module _ (fit : OwnMovesFit) (stay : TrailsStay) (behind : TurnsBehind) (w : Set
   bind_on before now b c d between runs (inl (o, is)) x = bind_at o before now b c d between runs is (subst (IsAtRow before) is between.row) x
   bind_on before now b c d between runs (inr (o, found, is)) x = absurd (subst (IsAtRow before) is between.row)
 
--- ---- with what no turn leaves
+-- ---- turns that may change what it has to run
 
 module _ (fit : OwnMovesFit) (finals : FinalsStay) (stay : TrailsStay) (behind : TurnsBehind) (w : Setting) (begun : List Event) where
   -- ---- a quiet turn
