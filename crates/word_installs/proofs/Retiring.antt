@@ -1,16 +1,16 @@
 -- Words that are taken away: one more leaves what may be, and what is gone.
-use Rattle.std.proofs.Common.{◌≡◌, ◌≢◌, ⊎_elim, append-nil, append_assoc, inl, inr, ℕ, ◌+◌, ◌-◌, ◌*◌, ◌/◌, ◌%◌, ◌^◌, ◌<◌, ◌≤◌, Result, Ok, Err, IfOk, IfErr, true, leb, ltb, get_or, List, [], ◌∷◌, ◌++◌, length, Some, refl, sym, ap, subst, ◌∙◌, arith, lt_of_not-le}
+use Rattle.std.proofs.Common.{◌≡◌, ◌≢◌, ⊎_elim, append-nil, append_assoc, inl, inr, ℕ, ◌+◌, ◌-◌, ◌*◌, ◌/◌, ◌%◌, ◌^◌, ◌<◌, ◌≤◌, Result, Ok, Err, IfOk, IfErr, Bool, true, false, leb, ltb, get_or, List, [], ◌∷◌, ◌++◌, length, Some, refl, sym, ap, subst, ◌∙◌, arith, lt_of_not-le}
 use mathlib.Core.Logic.{dite}
 use native.Mathlib.Decide.{ℕ_discrete, dec_le}
 use Rattle.std.specs.List.{Contains, slice_get}
 use Rattle.std.proofs.lemmas.Option.{slice_get_within}
-use Rattle.std.proofs.lemmas.Bool.{and_from, and_parts, le-leb, leb-true, lt-ltb, ltb-true}
+use Rattle.std.proofs.lemmas.Bool.{and_from, and_parts, le-leb, leb-true, lt-ltb, ltb-true, true≢false}
 use Rattle.std.proofs.lemmas.List.Elements.{Contains-append_cases, Contains-append_left, Contains-append_right}
 use Rattle.std.proofs.lemmas.List.{get_or-set_other, get_or_past, set_past}
 use Rattle.ld_base.specs.declared.fault.Shown.{Shown}
 use Rattle.ld_base.specs.declared.fault.Shown.TheVariants as shows
 use Rattle.ld_base.specs.declared.linking.Role.{Role}
-use Rattle.ld_base.specs.declared.linking.Role.TheVariants.{None as NoRole, Slot}
+use Rattle.ld_base.specs.declared.linking.Role.TheVariants.{None as NoRole, Ro, Rx, Rw, Slot}
 use Rattle.address_space.specs.Pages.{IsGuestRange}
 use Rattle.history_event.specs.declared.event.Range.{Range}
 use Rattle.word_rule.specs.declared.entry.Grant.{Grant}
@@ -123,6 +123,14 @@ stays_no_slot ranges k l retires d none slot = ⊎_elim
 
 pub slotless_on : {which : Role → Type 0} (ranges : List Range) (k l : KeeperView) → Retires which ranges k l → HasNoSlot ranges k → HasNoSlot ranges l
 slotless_on ranges k l retires none a is = stays_no_slot ranges k l retires (place_of a) (none a is)
+
+-- a doubleword without a role, by a test of whether it has one
+pub no_role : (r : Role) (has : Bool) → (r ≢ NoRole → has ≡ true) → has ≡ false → r ≡ NoRole
+no_role NoRole has some none = refl
+no_role Ro has some none = absurd (true≢false (sym (some (λ e. absurd (cc))) ∙ none))
+no_role Rx has some none = absurd (true≢false (sym (some (λ e. absurd (cc))) ∙ none))
+no_role Rw has some none = absurd (true≢false (sym (some (λ e. absurd (cc))) ∙ none))
+no_role Slot has some none = absurd (true≢false (sym (some (λ e. absurd (cc))) ∙ none))
 
 -- ---- what may go still may
 
