@@ -1,5 +1,5 @@
 -- Words that are taken away: one more leaves what may be, and what is gone.
-use Rattle.std.proofs.Common.{◌≡◌, ◌≢◌, ⊎_elim, append-nil, append_assoc, inl, inr, ℕ, ◌+◌, ◌-◌, ◌*◌, ◌/◌, ◌%◌, ◌^◌, ◌<◌, ◌≤◌, Result, Ok, Err, IfOk, IfErr, Bool, true, false, leb, ltb, get_or, List, [], ◌∷◌, ◌++◌, length, Some, refl, sym, ap, subst, ◌∙◌, arith, lt_of_not-le}
+use Rattle.std.proofs.Common.{◌≡◌, ◌≢◌, ◌⊎◌, ⊎_elim, append-nil, append_assoc, inl, inr, ℕ, ◌+◌, ◌-◌, ◌*◌, ◌/◌, ◌%◌, ◌^◌, ◌<◌, ◌≤◌, Result, Ok, Err, IfOk, IfErr, Bool, true, false, leb, ltb, get_or, List, [], ◌∷◌, ◌++◌, length, Some, refl, sym, ap, subst, ◌∙◌, arith, lt_of_not-le}
 use mathlib.Core.Logic.{dite}
 use native.Mathlib.Decide.{ℕ_discrete, dec_le}
 use Rattle.std.specs.List.{Contains, slice_get}
@@ -234,6 +234,14 @@ pub retires_by : (which : Role → Type 0) (ranges : List Range) (k l : KeeperVi
 retires_by which ranges k l a (Ok x) covered some such gone locked = retires_one which ranges k l a covered some such gone
 retires_by which ranges k l a (Err shown) covered some such gone locked = retires_locked which ranges k l (place_of a) shown locked
 
+-- so is one more that isn't a slot, where no slot is left
+pub other_by : (ranges : List Range) (k l n m : KeeperView) (a : ℕ) (result : Result Unit Shown) → Retires IsOfOther ranges k l → HasNoSlot ranges k → n ≡ l → IsCovered ranges a
+    → (kept_at l (place_of a)).role ≢ NoRole → IfOk result (λ _. m ≡ retired (place_of a) n) → IfErr result (λ shown. m ≡ was_shown (place_of a) shown n) → Retires IsOfOther ranges k m
+other_by ranges k l n m a result retires slotless same covered some gone locked =
+    retires_then ranges k l m retires (subst (λ (v : KeeperView). Retires IsOfOther ranges v m) same (retires_by IsOfOther ranges n m a result covered
+    (subst (λ (v : KeeperView). (kept_at v (place_of a)).role ≢ NoRole) (sym same) some)
+    (subst (HasNoSlot ranges) (sym same) (slotless_on ranges k l retires slotless) a covered) gone locked))
+
 -- ---- the doublewords of a range
 
 -- the doubleword of an index
@@ -349,6 +357,7 @@ of_any ranges k l retires = record { each = retires.each; more = retires.more; a
 
 pub is_unmapped : (ranges : List Range) (k l m n : KeeperView) (generation : ℕ) → l ≡ record k { generation = generation } → AreDecided k → Retires IsOfSlot ranges l m → Retires IsOfOther ranges m n
     → HasNoRole ranges n → IsUnmapped ranges k n
+unfolding retires_then of_any
 is_unmapped ranges k l m n generation is decided one two gone = record {
   gone = gone;
   kept = λ d outside. ⊎_elim (λ (same : kept_at n d ≡ kept_at l d). same ∙ ap (λ (v : KeeperView). kept_at v d) is) (λ (lost : LostRole ranges both.more l n d). absurd (outside lost.inside)) (both.each d);

@@ -5,8 +5,23 @@ use Rattle.word_rule.specs.Layout.{place_of}
 use Rattle.word_rule.specs.Views.{kept_at}
 use Rattle.kept_words.specs.Gone.{IsOfOther}
 use Rattle.word_installs.specs.Unmapped.{HasNoSlot, MayUnmap, Retires}
-use Rattle.word_installs.proofs.Retiring.{may_on, no_role, retires_by, retires_then, slotless_on}
+use Rattle.word_installs.proofs.Places.{word_address}
+use Rattle.word_installs.proofs.Retiring.{may_on, no_role, other_by, retires_none, slotless_on}
 use Rattle.word_installs.proofs.unmapping.retire_other.Goals as goal
+
+pub has_role-requires : goal.has_role-requires
+has_role-requires g c = word_address c.args.address c.requires.covered.word
+
+pub loop-init : goal.loop-init
+loop-init g c = (tt, tt, retires_none IsOfOther c.args.ranges.now c.args.keeper.now)
+
+pub loop-preserved : goal.loop-preserved
+loop-preserved g c = (
+  tt,
+  tt,
+  other_by c.args.ranges.now c.args.keeper.now c.loop.keeper c.has_role.new.keeper c.retire_in.new.keeper c.args.address c.retire_in.result c.loop.invariant.2 c.requires.slotless
+      c.has_role.ensures.keeper c.requires.covered (c.has_role.ensures.role.0 c.if-not-has_role.false) c.retire_in.ensures.gone c.retire_in.ensures.locked,
+)
 
 pub retire_in-requires-clause-may : goal.retire_in-requires-clause-may
 retire_in-requires-clause-may g c =
@@ -30,9 +45,5 @@ returns-then-not-has_role-clause-retires g c = subst (Retires IsOfOther c.args.r
 
 pub returns-then-is_ok-clause-retires : goal.returns-then-is_ok-clause-retires
 returns-then-is_ok-clause-retires g c =
-    retires_then c.args.ranges.now c.args.keeper.now c.loop.keeper c.retire_in.new.keeper c.loop.invariant.2
-    (subst (λ (k : KeeperView). Retires IsOfOther c.args.ranges.now k c.retire_in.new.keeper) c.has_role.ensures.keeper
-    (retires_by IsOfOther c.args.ranges.now c.has_role.new.keeper c.retire_in.new.keeper c.args.address c.retire_in.result c.requires.covered
-    (subst (λ (k : KeeperView). (kept_at k (place_of c.args.address)).role ≢ NoRole) (sym c.has_role.ensures.keeper) (c.has_role.ensures.role.0 c.if-not-has_role.false))
-    (subst (HasNoSlot c.args.ranges.now) (sym c.has_role.ensures.keeper) (slotless_on c.args.ranges.now c.args.keeper.now c.loop.keeper c.loop.invariant.2 c.requires.slotless) c.args.address c.requires.covered)
-    c.retire_in.ensures.gone c.retire_in.ensures.locked))
+    other_by c.args.ranges.now c.args.keeper.now c.loop.keeper c.has_role.new.keeper c.retire_in.new.keeper c.args.address c.retire_in.result c.loop.invariant.2 c.requires.slotless
+    c.has_role.ensures.keeper c.requires.covered (c.has_role.ensures.role.0 c.if-not-has_role.false) c.retire_in.ensures.gone c.retire_in.ensures.locked
