@@ -5,7 +5,7 @@ use native.Mathlib.Decide.{ℕ_discrete}
 use Rattle.std.specs.List.{slice_get}
 use Rattle.std.proofs.lemmas.Option.{slice_get_within}
 use Rattle.ld_base.specs.declared.linking.Role.{Role}
-use Rattle.ld_base.specs.declared.linking.Role.TheVariants.{None as NoRole, Rx, Rw, Slot}
+use Rattle.ld_base.specs.declared.linking.Role.TheVariants.{None as NoRole, Rx, Slot}
 use Rattle.seg_image.specs.declared.image.Image.{Image}
 use Rattle.seg_image.specs.declared.image.Word.{Word}
 use Rattle.word_rule.specs.declared.view.KeeperView.{KeeperView}

@@ -1,4 +1,4 @@
-use Rattle.std.proofs.Common.{◌≡◌, ◌≢◌, ap, inr, sym, subst, ◌∙◌}
+use Rattle.std.proofs.Common.{◌≢◌, ap, inr, sym, subst, ◌∙◌}
 use Rattle.ld_base.specs.declared.linking.Role.TheVariants.{None as NoRole}
 use Rattle.word_rule.specs.declared.view.KeeperView.{KeeperView}
 use Rattle.word_rule.specs.Layout.{place_of}
