@@ -16,6 +16,7 @@ use Rattle.hart_moves.specs.TurnEvents.Laws.{FinalsStayAway, TurnsAppend}
 use Rattle.hart_fits.specs.Fits.{HartFits, OthersLeaveHart}
 use Rattle.hart_trails.specs.Ends.{IsFresh}
 use Rattle.hart_trails.specs.Laws.{TrailsStay}
+use Rattle.hart_trails.specs.Owners.{AreNobodys}
 use Rattle.hart_linker.specs.Between.{Hears, IsAtRow}
 use Rattle.hart_threads.specs.Ends.{IsThrough, IsToldOf, RanFirst, RanWhole, RunsAlone}
 use Rattle.hart_threads.specs.Run.{HasStarted, IsReady, IsUnrun, RunsOn, RunsToEnd}
@@ -64,7 +65,7 @@ module _ (fit : OthersLeaveHart) (w : Setting) (begun : List Event) {X : Type 0}
       (since : (i : ℕ) (d : X) → i < length alone → BeginsWith (seat (get_or told i d)).heard (seat (get_or told 0 d)).heard)
       (same_hart : (i : ℕ) (d : X) → hart (get_or told i d) ≡ hart (get_or alone i d))
       (same_blocks : (i : ℕ) (d : X) → blocks (get_or told i d) ≡ blocks (get_or alone i d)) where
-    nobodys : (d : X) (some : 0 < length alone) (e : Event) → Contains (hears 0 d some).longer.0 e → hart_of e ≡ None
+    nobodys : (d : X) (some : 0 < length alone) → AreNobodys (hears 0 d some).longer.0
     nobodys d some = nobodys_since w begun (seat (get_or alone 0 d)) (seat (get_or told 0 d)) (hears 0 d some) (number_of 0 d (let same = count in omega (arith, some, same)))
         (λ h behind less.
         let low : h < length old = (let all = harts in omega (arith, less, all)) in
