@@ -245,7 +245,7 @@ module _ (over_is : OverIsWhole) (are_true : TrailsAreTrue) (are_exchanges : Fat
           longer = (front.longer.0 ++ settled.settled.more, events_are ∙ ap (λ (es : List Event). es ++ settled.settled.more) front.longer.1 ∙ append_assoc j.heard front.longer.0 settled.settled.more);
           none = subst (λ (es : List Event). HasNone es h (length j.heard) (length es)) (sym events_are)
               (none_more h (length j.heard) k.events settled.settled.more (subst (λ (n : ℕ). HasNone k.events n (length j.heard) (length k.events)) same front.none) settled.settled.nobodys);
-          is_true = record { issued = x.issued; events = x.events; granted = x.granted; won = x.won; lost = x.lost };
+          is_true = record { issued = x.issued; events = x.events; granted = x.granted; won = x.won; lost = x.lost; fetched = x.fetched };
           rising = all_taken.1.rising;
           kept = all_taken.1.kept;
         }

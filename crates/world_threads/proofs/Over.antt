@@ -226,6 +226,7 @@ module _ (laws : Laws) (w : Setting) (setup : Setup) (past : List Event) (starte
           granted = closed.is_true.granted;
           won = closed.is_true.won;
           lost = closed.is_true.lost;
+          fetched = closed.is_true.fetched;
         };
         rising = closed.rising;
         kept = closed.kept;
