@@ -22,7 +22,6 @@ use Rattle.world_turns.specs.Turn.{TakesTurn, Turn}
 use Rattle.world_turns.specs.World.{World}
 use Rattle.plain_world.specs.Playing.{BeginsToFinalise, FinalisesOnce, FirstRuns, InEachRun, OthersHaveEnded}
 use Rattle.plain_world.specs.Table.{WorldTable, moved}
-use Rattle.plain_world.proofs.Left.{left, round_less, turn_less}
 
 -- ---- the same run at another world
 
@@ -43,19 +42,12 @@ in_each run now files files' Holds is same each =
     in_each_of run now files files' Holds (ap (λ (t : WorldTable). t.count) is) (ap (λ (t : WorldTable). t.folders) is) same each
 
 -- there is such a run
-some_run : WorldTable → Option (List File) → Setting
+pub some_run : WorldTable → Option (List File) → Setting
 some_run run files = record { machine = machine_of run.count; folders = run.folders; preload = []; files = files }
 
-some_over : (run : WorldTable) (files : Option (List File)) → IsOver (machine_of run.count) run.folders files (some_run run files)
+pub some_over : (run : WorldTable) (files : Option (List File)) → IsOver (machine_of run.count) run.folders files (some_run run files)
 unfolding some_run
 some_over run files = record { machine = refl; folders_are = refl; files_are = refl }
-
-pub each_less : (run : WorldTable) (files : Option (List File)) (h : ℕ) (old new : World) → InEachRun run files (λ w. Turn w h old new) → left new < left old
-each_less run files h old new each = turn_less (some_run run files) h old new (each (some_run run files) (some_over run files))
-
-pub each_round_less : (run : WorldTable) (files : Option (List File)) (old new : World) → have_ended old ≡ false → InEachRun run files (λ w. Rounds w (all_harts old) old new)
-    → left new < left old
-each_round_less run files old new runs each = round_less (some_run run files) old new runs (each (some_run run files) (some_over run files))
 
 -- ---- the first hart
 
@@ -98,29 +90,30 @@ runs_first world runs x = (
   runs_of x.first (last_of x.first x.others (sym (ap (list_all has_ended) x.harts) ∙ runs) x.over),
 )
 
--- its turn isn't passed over
-pub turn_of_first : (w : Setting) (old new : World) → FirstRuns old → TakesTurn w 0 old new → Turn w 0 old new
-turn_of_first w old new runs (TakesTurn.turn t) = t
-turn_of_first w old new runs (TakesTurn.passed_over b reason at over same) =
-    absurd (let found : Some b ≡ Some runs.0 = sym at ∙ runs.1 in
-    let one : b ≡ runs.0 = cc in
-    let none : Some reason ≡ None = sym over ∙ ap (λ (x : HartState). x.«end») one ∙ runs.2 in cc)
+-- a hart runs, or has ended
+pub no_end : (world : World) (h : ℕ) (reason : HartEnd) → HasEnd world h None → HasEnd world h (Some reason) → ⊥
+no_end world h reason runs over =
+    let found : Some over.0 ≡ Some runs.0 = sym over.1 ∙ runs.1 in
+    let one : over.0 ≡ runs.0 = cc in
+    let none : Some reason ≡ None = sym over.2 ∙ ap (λ (x : HartState). x.«end») one ∙ runs.2 in
+    cc
+
+-- where it runs, its turn isn't passed over
+pub turn_of : (w : Setting) (h : ℕ) (old new : World) → HasEnd old h None → TakesTurn w h old new → Turn w h old new
+turn_of w h old new runs (TakesTurn.turn t) = t
+turn_of w h old new runs (TakesTurn.passed_over b reason at over same) = absurd (no_end old h reason runs (b, at, over))
 
 -- the others stay as they are, but for their grants
 freed_ended : (harts : List HartState) → list_all has_ended (map freed harts) ≡ list_all has_ended harts
 freed_ended [] = refl
 freed_ended (b ∷ rest) = ap (λ (t : Bool). has_ended b && t) (freed_ended rest)
 
-others_stay : (w : Setting) (old new : World) → Turn w 0 old new → OthersHaveEnded old → OthersHaveEnded new
+pub others_stay : (w : Setting) (old new : World) → Turn w 0 old new → OthersHaveEnded old → OthersHaveEnded new
 others_stay w old new t x = by (settles t.did) (t.harts ∙ ap (λ (bs : List HartState). slice_set (cond (settles t.did) (map freed bs) bs) 0 t.left) x.harts)
   where
     by : (s : Bool) → new.harts ≡ slice_set (cond s (map freed (x.first ∷ x.others)) (x.first ∷ x.others)) 0 t.left → OthersHaveEnded new
     by true is = record { first = t.left; others = map freed x.others; harts = is; over = freed_ended x.others ∙ x.over }
     by false is = record { first = t.left; others = x.others; harts = is; over = x.over }
-
-pub each_others : (run : WorldTable) (files : Option (List File)) (old new : World) → InEachRun run files (λ w. Turn w 0 old new) → OthersHaveEnded old
-    → OthersHaveEnded new
-each_others run files old new each x = others_stay (some_run run files) old new (each (some_run run files) (some_over run files)) x
 
 exited_over : (harts : List HartState) → list_all has_exited harts ≡ true → list_all has_ended harts ≡ true
 exited_over [] is = refl
@@ -191,12 +184,6 @@ items_more w items i item old between new lt is repeats rest =
 pub items_over : (w : Setting) (items : List TurnItem) (i : ℕ) (world : World) → length items ≤ i → TakesItems w (drop i items) world world
 items_over w items i world past = subst (λ (xs : List TurnItem). TakesItems w xs world world) (sym (drop_all i items past)) (TakesItems.no_more world)
 
-pub repeats_more : (w : Setting) (h count turn : ℕ) (old between new : World) → turn < count → TakesTurn w h old between → Repeats w h (count - (turn + 1)) between new
-    → Repeats w h (count - turn) old new
-repeats_more w h count turn old between new lt takes rest =
-    let next : suc (count - (turn + 1)) ≡ count - turn = omega arith in
-    subst (λ (n : ℕ). Repeats w h n old new) next (Repeats.one_more (count - (turn + 1)) old between new takes rest)
-
 pub rounds_more : (w : Setting) (count h : ℕ) (old between new : World) → h < count → TakesTurn w h old between
     → Rounds w (range_with_len (h + 1) (count - (h + 1))) between new → Rounds w (range_with_len h (count - h)) old new
 rounds_more w count h old between new lt takes rest =
@@ -206,7 +193,3 @@ rounds_more w count h old between new lt takes rest =
 pub rounds_over : (w : Setting) (count h : ℕ) (world : World) → count ≤ h → Rounds w (range_with_len h (count - h)) world world
 rounds_over w count h world past =
     let none : 0 ≡ count - h = omega arith in subst (λ (n : ℕ). Rounds w (range_with_len h n) world world) none (Rounds.no_more world)
-
-pub repeats_over : (w : Setting) (h count turn : ℕ) (world : World) → count ≤ turn → Repeats w h (count - turn) world world
-repeats_over w h count turn world past =
-    let none : 0 ≡ count - turn = omega arith in subst (λ (n : ℕ). Repeats w h n world world) none (Repeats.no_more world)

@@ -1,8 +1,10 @@
 pub mod Begun
 pub mod Counting
 pub mod Going
+pub mod Instructions
 pub mod Left
 pub mod Parts
 pub mod Runs
 pub mod Started
+pub mod Stretches
 pub mod Telling

@@ -8,7 +8,7 @@ use Rattle.world_turns.specs.World.{World}
 use Rattle.plain_world.specs.Laws.{HandedIsRun, PlayedIsRun}
 use Rattle.plain_world.specs.Playing.{FinalisesOnce, TakesByHand}
 use Rattle.plain_world.proofs.Begun.{stays_begun}
-use Rattle.plain_world.proofs.Going.{starts_first, turn_of_first}
+use Rattle.plain_world.proofs.Going.{starts_first, turn_of}
 
 once : (w : Setting) (registers : Registers) (old new : World) → FinalisesOnce w false registers old new → Finalises w registers old new
 once w registers old new (FinalisesOnce.for_once before finals) = finals
@@ -48,7 +48,7 @@ handed w taken items old between scheduled (TakesByHand.constructs _ _ next _ st
     let behind = handed w taken items next between scheduled rest x in
     record {
       constructed = behind.constructed;
-      constructs = Constructs.one_more old next behind.constructed starting (turn_of_first w old next (starts_first old starting) takes) behind.constructs;
+      constructs = Constructs.one_more old next behind.constructed starting (turn_of w 0 old next (starts_first old starting) takes) behind.constructs;
       follows = behind.follows;
     }
 handed w taken items old between scheduled (TakesByHand.takes h more _ next _ over takes rest) x =

@@ -4,4 +4,5 @@ pub mod Inside
 pub mod Laws
 pub mod Playing
 pub mod Started
+pub mod Stretches
 pub mod Table

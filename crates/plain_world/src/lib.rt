@@ -13,6 +13,7 @@ mod law;
 mod record;
 mod run;
 mod starting;
+mod stretch;
 mod turn;
 mod world;
 

@@ -1,19 +1,19 @@
 //! A whole run by a written schedule.
 
-ghost use Rattle.std.specs.Prelude.{◌≡◌, ◌<◌, ◌≤◌, true, Contains, IsTrue};
+ghost use Rattle.std.specs.Prelude.{◌≡◌, ◌<◌, ◌≤◌, true, false, Contains, IsTrue, None};
+ghost use Rattle.world_answers.specs.GuestsPart.GuestWorlds.Coming.{HasEnd};
 ghost use Rattle.world_answers.specs.GuestsPart.Counting.{IsCounted, counts_at};
 ghost use Rattle.hart_moves.specs.Starting.{starting_registers};
-ghost use Rattle.plain_world.specs.Playing.{FinalisesOnce, FirstRuns, InEachRun, OthersHaveEnded, Plays};
+ghost use Rattle.plain_world.specs.Playing.{FinalisesOnce, InEachRun, OthersHaveEnded, Plays};
+ghost use Rattle.plain_world.specs.Stretches.{GoesRound, TakesSome};
 ghost use Rattle.plain_world.specs.Table.{moved};
 ghost use Rattle.world_turns.specs.declared.schedules.schedule.TurnItem.{TurnItem as item_value};
 ghost use Rattle.world_turns.specs.Run.{Constructs, RunEnds, RunFinishes, Repeats, Rounds, TakesItems, all_harts, have_ended};
-ghost use Rattle.world_turns.specs.Turn.{Turn as one_turn};
 
 use crate::World;
 use ld_base::HartId;
 use library_source::Library;
 use std::alloc::Global;
-use world_answers::Turn;
 use world_turns::{TurnItem, Turns};
 
 /// The number of the hart that runs startup's constructors and the final destructors.
@@ -55,14 +55,14 @@ fn construct<L: Library>(run: &mut World, alloc: Global, library: &mut L)
     ensures misses { L.misses library.old ≤ L.misses library.new }
 {
     while run.is_starting() {
-        go_on(run, alloc, library);
+        go_on(run, alloc, HartId::new(FIRST_HART), library);
     }
 }
 
-/// A turn of the first hart, which hasn't ended.
-fn go_on<L: Library>(run: &mut World, alloc: Global, library: &mut L)
-    requires { FirstRuns run.old.world }
-    ensures turn { InEachRun run.old (L.files library.old) (λ w. one_turn w 0 run.old.world run.new.world) }
+/// The next turns of a hart that runs on.
+fn go_on<L: Library>(run: &mut World, alloc: Global, id: HartId, library: &mut L)
+    requires { HasEnd run.old.world id None }
+    ensures takes { InEachRun run.old (L.files library.old) (λ w. TakesSome w id run.old.world run.new.world) }
     ensures rest { run.new ≡ moved run.old run.new.world }
     ensures counts { IsCounted run.old.folders run.old.world run.new.world
         (counts_at L.faults L.misses library.old) (counts_at L.faults L.misses library.new) }
@@ -71,7 +71,7 @@ fn go_on<L: Library>(run: &mut World, alloc: Global, library: &mut L)
     ensures misses { L.misses library.old ≤ L.misses library.new }
 {
     let _ = run.count();
-    let _ = run.turn(alloc, HartId::new(FIRST_HART), library);
+    let _ = run.next_turns(alloc, id, u64::MAX, library);
 }
 
 /// The items of a schedule, one after another.
@@ -101,10 +101,13 @@ fn repeat<L: Library>(run: &mut World, alloc: Global, item: TurnItem, library: &
     ensures faults { L.faults library.old ≤ L.faults library.new }
     ensures misses { L.misses library.old ≤ L.misses library.new }
 {
-    for _turn in 0..item.count {
-        if let Turn::Idle = run.turn(alloc, item.hart, library) {
+    let mut left = item.count;
+    while left > 0 {
+        let taken = run.next_turns(alloc, item.hart, left, library);
+        if taken == 0 {
             return;
         }
+        left -= taken;
     }
 }
 
@@ -120,7 +123,24 @@ fn finish<L: Library>(run: &mut World, alloc: Global, library: &mut L)
     ensures misses { L.misses library.old ≤ L.misses library.new }
 {
     while !run.have_ended() {
-        go_round(run, alloc, library);
+        go_rounds(run, alloc, library);
+    }
+}
+
+/// A turn of each hart, in their order; where one alone runs on, as many such rounds as it takes turns at a stretch.
+fn go_rounds<L: Library>(run: &mut World, alloc: Global, library: &mut L)
+    requires { have_ended run.old.world ≡ false }
+    ensures rounds { InEachRun run.old (L.files library.old) (λ w. GoesRound w run.old.world run.new.world) }
+    ensures rest { run.new ≡ moved run.old run.new.world }
+    ensures counts { IsCounted run.old.folders run.old.world run.new.world
+        (counts_at L.faults L.misses library.old) (counts_at L.faults L.misses library.new) }
+    ensures files { L.files library.new ≡ L.files library.old }
+    ensures faults { L.faults library.old ≤ L.faults library.new }
+    ensures misses { L.misses library.old ≤ L.misses library.new }
+{
+    match run.last_running() {
+        Some(last) => go_on(run, alloc, last, library),
+        None => go_round(run, alloc, library),
     }
 }
 
@@ -135,7 +155,7 @@ fn go_round<L: Library>(run: &mut World, alloc: Global, library: &mut L)
     ensures misses { L.misses library.old ≤ L.misses library.new }
 {
     for number in 0..run.count() {
-        let _ = run.turn(alloc, HartId::new(number), library);
+        let _ = run.next_turns(alloc, HartId::new(number), 1, library);
     }
 }
 
@@ -170,6 +190,6 @@ fn run_finals<L: Library>(run: &mut World, alloc: Global, library: &mut L)
     ensures misses { L.misses library.old ≤ L.misses library.new }
 {
     while !run.have_ended() {
-        go_on(run, alloc, library);
+        go_on(run, alloc, HartId::new(FIRST_HART), library);
     }
 }

@@ -1,14 +1,17 @@
 //! A run on one thread at a moment.
 
-ghost use Rattle.std.specs.Prelude.{◌≡◌, ◌<◌, ◌≤◌, length};
+ghost use Rattle.std.specs.Prelude.{◌≡◌, ◌<◌, ◌≤◌, length, IfSome};
 ghost use Rattle.world_answers.specs.GuestsPart.GuestWorlds.Coming.{LeavesHart};
 ghost use Rattle.world_answers.specs.GuestsPart.GuestWorlds.Worlds.{TakesOver};
 ghost use Rattle.world_answers.specs.GuestsPart.Counting.{IsCounted, counts_at};
 ghost use Rattle.world_answers.specs.GuestsPart.Next.{NextOpens, NextReadsNothing, NextTells};
+ghost use Rattle.plain_world.specs.Playing.{InEachRun};
+ghost use Rattle.plain_world.specs.Stretches.{RunsAlone, TakesNext, TakesStretch};
 ghost use Rattle.plain_world.specs.Table.{moved};
 ghost use Rattle.world_turns.specs.Run.{have_ended, is_starting};
 
-use crate::harts::{have_ended, is_starting};
+use crate::harts::{have_ended, is_starting, last_running};
+use crate::stretch::take_stretch;
 use crate::turn::take_turn;
 use hart_seat::LinkedHart;
 use history_event::{HartEnd, HartEntry};
@@ -85,6 +88,49 @@ impl World {
         )
     }
 
+    /// Takes the next turns of a hart, at most so many, but one at least: instructions, as long as nothing else is
+    /// due, or else the next turn, whatever it is. Answers how many; a hart that has ended takes none.
+    pub(crate) fn next_turns<L: Library>(
+        &mut self,
+        alloc: Global,
+        id: HartId,
+        most: u64,
+        library: &mut L,
+    ) -> u64
+        requires hart { id < self.old.count }
+        requires some { 0 < most }
+        ensures takes { InEachRun self.old (L.files library.old) (λ w. TakesNext w id result self.old.world self.new.world) }
+        ensures most { result ≤ most }
+        ensures rest { self.new ≡ moved self.old self.new.world }
+        ensures counts { IsCounted self.old.folders self.old.world self.new.world
+            (counts_at L.faults L.misses library.old) (counts_at L.faults L.misses library.new) }
+        ensures files { L.files library.new ≡ L.files library.old }
+        ensures faults { L.faults library.old ≤ L.faults library.new }
+        ensures misses { L.misses library.old ≤ L.misses library.new }
+    {
+        let taken = self.stretch(id, most);
+        if taken > 0 {
+            return taken;
+        }
+        match self.turn(alloc, id, library) {
+            Turn::Idle => 0,
+            _ => 1,
+        }
+    }
+
+    /// Takes instructions of a hart, one after another, until something else is due or one stops it, and so many at
+    /// most. Answers how many.
+    fn stretch(&mut self, id: HartId, most: u64) -> u64
+        requires { id < self.old.count }
+        ensures takes { TakesStretch id result self.old.world self.new.world }
+        ensures most { result ≤ most }
+        ensures rest { self.new ≡ moved self.old self.new.world }
+    {
+        runs_stay();
+        let harts = self.harts.as_mut_slice();
+        take_stretch(&mut self.memory, harts, id, most)
+    }
+
     /// How many harts there are.
     pub fn count(&self) -> u32
         ensures count { result ≡ self.now.count }
@@ -99,6 +145,14 @@ impl World {
         ensures { result ≡ is_starting self.now.world }
     {
         is_starting(self.harts.as_slice())
+    }
+
+    /// The hart that runs on, where each other one has ended.
+    pub(crate) fn last_running(&self) -> Option<HartId>
+        ensures { IfSome result (RunsAlone self.now.world.harts) }
+    {
+        let _ = self.count();
+        last_running(self.harts.as_slice())
     }
 
     /// Whether each hart has ended.

@@ -1,10 +1,12 @@
-use Rattle.std.proofs.Common.{sym, ◌∙◌, arith, refl}
+use Rattle.std.proofs.Common.{ℕ, None, sym, subst, ◌∙◌, arith, refl}
 use Rattle.world_turns.specs.Run.{Constructs}
-use Rattle.world_turns.specs.Turn.{Turn}
+use Rattle.world_answers.specs.GuestsPart.GuestWorlds.Coming.{HasEnd}
+use Rattle.plain_world.specs.Stretches.{TakesSome}
 use Rattle.world_answers.specs.GuestsPart.Counting.{counts_at}
 use Rattle.world_answers.specs.GuestsPart.Lemmas.Counting.{unmoved}
 use Rattle.plain_world.proofs.Counting.{more_counted, no_count, same_folders}
-use Rattle.plain_world.proofs.Going.{each_less, in_each, moved_more}
+use Rattle.plain_world.proofs.Going.{in_each, moved_more, starts_first}
+use Rattle.plain_world.proofs.Stretches.{each_some_less, next_constructs}
 use Rattle.plain_world.proofs.run.construct.Goals as goal
 
 pub loop-alloc-init : goal.loop-alloc-init
@@ -18,16 +20,26 @@ loop-alloc-init g c = record {
   misses = omega arith;
 }
 
+pub go_on-requires : goal.go_on-requires
+go_on-requires g c =
+    subst (λ (h : ℕ). HasEnd c.loop-alloc.run.world h None) (sym c.new.ensures) (starts_first c.loop-alloc.run.world (sym c.is_starting.ensures ∙ c.loop-alloc-test.true))
+
 pub loop-alloc-smaller : goal.loop-alloc-smaller
-loop-alloc-smaller g c = each_less c.loop-alloc.run (g.L.Library.files c.loop-alloc.library) 0 c.loop-alloc.run.world c.go_on.new.run.world c.go_on.ensures.turn
+loop-alloc-smaller g c =
+    each_some_less c.loop-alloc.run (g.L.Library.files c.loop-alloc.library) c.new.result c.loop-alloc.run.world c.go_on.new.run.world
+    (subst (λ (h : ℕ). HasEnd c.loop-alloc.run.world h None) (sym c.new.ensures) (starts_first c.loop-alloc.run.world (sym c.is_starting.ensures ∙ c.loop-alloc-test.true)))
+    c.go_on.ensures.takes
 
 pub loop-alloc-preserved : goal.loop-alloc-preserved
 loop-alloc-preserved g c = record {
   rest = moved_more c.args.run.now c.loop-alloc.run c.go_on.new.run c.loop-alloc.invariant.rest c.go_on.ensures.rest;
-  goes = λ w over new more. c.loop-alloc.invariant.goes w over new
-      (Constructs.one_more c.loop-alloc.run.world c.go_on.new.run.world new (sym c.is_starting.ensures ∙ c.loop-alloc-test.true)
+  goes = λ w over new more.
+      let starting = sym c.is_starting.ensures ∙ c.loop-alloc-test.true in
+      let some = subst (λ (h : ℕ). TakesSome w h c.loop-alloc.run.world c.go_on.new.run.world) c.new.ensures
       (in_each c.args.run.now c.loop-alloc.run (g.L.Library.files c.args.library.now) (g.L.Library.files c.loop-alloc.library)
-      (λ v. Turn v 0 c.loop-alloc.run.world c.go_on.new.run.world) c.loop-alloc.invariant.rest c.loop-alloc.invariant.files c.go_on.ensures.turn w over) more);
+      (λ v. TakesSome v c.new.result c.loop-alloc.run.world c.go_on.new.run.world) c.loop-alloc.invariant.rest c.loop-alloc.invariant.files c.go_on.ensures.takes w over) in
+      c.loop-alloc.invariant.goes w over new
+      (next_constructs w some.0 c.loop-alloc.run.world c.go_on.new.run.world new (starts_first c.loop-alloc.run.world starting) starting some.1 more);
   counts = more_counted g.L.Library.faults g.L.Library.misses c.args.run.now c.loop-alloc.run c.go_on.new.run.world c.args.library.now
       c.loop-alloc.library c.go_on.new.library (same_folders c.args.run.now c.loop-alloc.run c.loop-alloc.invariant.rest) c.loop-alloc.invariant.faults
       c.loop-alloc.invariant.misses c.go_on.ensures.faults c.go_on.ensures.misses c.loop-alloc.invariant.counts c.go_on.ensures.counts;
