@@ -155,12 +155,45 @@ def shared(objects, slots, names):
     return files
 
 
+def versioned(symbols, slots):
+    """A program with a slot for each of these versions of one name, all of whose symbols its library has, in one bucket: those
+    of the versions come last."""
+    texts = [b"V%05d" % k for k in range(slots)]
+    strings = one_name.STRINGS + b"\0".join(texts) + b"\0"
+    places = [len(one_name.STRINGS) + 7 * k for k in range(slots)]
+    names = [(1, b"liba.so", 3), *((k + 2, text, at) for k, (text, at) in enumerate(zip(texts, places)))]
+    record = struct.Struct("<4H5I")
+    defined = b"".join(
+        record.pack(1, index == 1, index, 1, one_name.sysv_hash(text), 20, 28 if index <= slots else 0, at, 0) for index, text, at in names
+    )
+    needed = struct.pack("<2H3I", 1, slots, 3, 16, 0) + b"".join(
+        struct.pack("<I2H2I", one_name.sysv_hash(text), 0, index, at, 16 if index <= slots else 0) for index, text, at in names[1:]
+    )
+    exported = [struct.pack("<IBBHQQ", 1, 0x12, 0, 1, 0x1000, 4)] * symbols
+    wanted = [struct.pack("<IBBHQQ", 1, 0x12, 0, 0, 0, 0)] * slots
+    of_symbols = [slots + 1] * (symbols - slots + 1) + list(range(2, slots + 1))
+    definitions = [(0x6FFFFFFC, defined)], [(0x6FFFFFFD, slots + 1)]
+    needs = [(0x6FFFFFFE, needed)], [(0x6FFFFFFF, 1)]
+    table = (0x6FFFFEF5, one_name.gnu_table(1, symbols))
+    empty = (4, struct.pack("<3I", 1, slots + 1, 0) + bytes(4 * (slots + 1)))
+    return {
+        "lib/liba.so": one_name.build(3, table, exported, 0, [], 0, of_symbols, definitions, strings),
+        "prog": one_name.build(3, empty, wanted, 1, list(range(1, slots + 1)), 0, list(range(2, slots + 2)), needs, strings),
+    }
+
+
 def buckets():
     for names in (20000, 80000):
         files = one_bucket(plain(names))
         row(3, f"bind of {names} slots to as many names in one bucket", scenario(files, "bind --lib lib prog"), "5 s")
-    done = scenario(one_bucket(fallen(40000)), "bind --lib lib prog")
+    texts = fallen(40000)
+    done = scenario(one_bucket(texts), "bind --lib lib prog")
     row(3, "bind of 40000 slots to as many names of one System V hash", done, "5 s")
+    done = scenario({**one_bucket(texts), "prog": asking(b"liba.so", texts[-10100:])}, "bind --lib lib prog")
+    row(3, "bind of 10100 slots to the last of 40000 such names", done, "5 s")
+    for slots in 1000, 10000:
+        done = scenario(versioned(100000, slots), "bind --lib lib prog")
+        row(3, f"bind of {slots} slots, each of a version of its own, to a name that 100000 symbols have", done, "5 s")
     done = scenario(shared(1000, 60, 60000), "bind --lib lib prog")
     row(3, "bind of 1000 objects with 60 slots each to 60000 names in one bucket", done, "5 s")
 
