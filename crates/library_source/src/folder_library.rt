@@ -1,10 +1,10 @@
 //! A library over the files of the system.
 
-ghost use Rattle.std.specs.Prelude.{◌≡◌, ◌≤◌, length, vec_len, IfOk};
+ghost use Rattle.std.specs.Prelude.{◌≡◌, ◌<◌, ◌≤◌, length, take, vec_len, IfOk};
 ghost use Rattle.std.specs.Result.{IsErrOf};
 ghost use Rattle.std.specs.Str.{IsUtf8};
 ghost use Rattle.std.specs.IoError.{error_kind};
-ghost use Rattle.std.specs.Io.KnownBytes.{ReadConsumes};
+ghost use Rattle.std.specs.Io.KnownBytes.{Consumes, IsAtEnd, ReadConsumes};
 ghost use Rattle.library_source.specs.Count.{CountsIf};
 ghost use Rattle.library_source.specs.Folder.{IsFront, read_error, read_limit};
 
@@ -18,7 +18,7 @@ use std::rt::Files;
 /// How many bytes of a file are read at most: one more than the longest file that is accepted has.
 pub const READ_LIMIT: usize = 8 * 1024 * 1024 + 1;
 
-/// How many bytes are asked for at a time: most objects are shorter, and so many are set to 0 for each file.
+/// How much room is made at a time for a file that is longer than its length says.
 const PIECE: usize = 16 * 1024;
 
 /// The files of the system. A path that isn't UTF-8 names none of them, and what isn't a regular file
@@ -101,30 +101,49 @@ fn read_file<R: Files>(rt: &R, alloc: Global, path: &[u8]) -> Result<Vec<u8>, Re
     let Ok(path) = str::from_utf8(path) else {
         return Err(ReadError::Missing);
     };
+    let metadata = fs::metadata(rt, path)?;
     // A pipe would hold up whoever opens it, and a device may have no end.
-    if !fs::metadata(rt, path)?.is_file() {
+    if !metadata.is_file() {
         return Err(ReadError::Failed);
     }
     let mut file = fs::open(rt, path)?;
-    Ok(read_front(alloc, &mut file)?)
+    Ok(read_front(alloc, &mut file, metadata.len())?)
 }
 
-/// The bytes that a reader gives, up to the limit: all of them where they are fewer.
-fn read_front<F: Read>(alloc: Global, file: &mut F) -> io::Result<Vec<u8>>
+/// The bytes that a reader gives, up to the limit: all of them where they are fewer. Room is made for the
+/// length that is told and one byte more, where the read that finds the end goes.
+fn read_front<F: Read>(alloc: Global, file: &mut F, told: u64) -> io::Result<Vec<u8>>
     ensures { IfOk result (λ bytes.
         IsFront (F.remaining file.old) (F.remaining file.new) bytes.items) }
 {
-    let mut bytes = Vec::new(alloc);
-    let mut piece = [0u8; PIECE];
-    while bytes.len() < READ_LIMIT {
-        let most = PIECE.min(READ_LIMIT - bytes.len());
-        let count = read_once(file, &mut piece[..most])?;
-        if count == 0 {
-            return Ok(bytes);
-        }
-        bytes.extend_from_slice(&piece[..count])?;
+    let room = told.min(READ_LIMIT as u64 - 1) as usize + 1;
+    let mut bytes = Vec::with_capacity(alloc, room)?;
+    bytes.resize(room, 0)?;
+    let mut filled = fill(file, &mut bytes)?;
+    while filled == bytes.len() && filled < READ_LIMIT {
+        bytes.resize(READ_LIMIT.min(filled + PIECE), 0)?;
+        filled += fill(file, &mut bytes[filled..])?;
     }
+    bytes.truncate(filled);
     Ok(bytes)
+}
+
+/// Reads until the room is full or the reader is at its end.
+fn fill<F: Read>(file: &mut F, room: &mut [u8]) -> io::Result<usize>
+    ensures bound { IfOk result (λ n. n ≤ length room.new) }
+    ensures taken { IfOk result (λ n.
+        Consumes (F.remaining file.old) (F.remaining file.new) (take n room.new)) }
+    ensures whole { IfOk result (λ n. n < length room.new → IsAtEnd (F.remaining file.new)) }
+{
+    let mut filled = 0;
+    while filled < room.len() {
+        let count = read_once(file, &mut room[filled..])?;
+        if count == 0 {
+            return Ok(filled);
+        }
+        filled += count;
+    }
+    Ok(filled)
 }
 
 /// One read of a reader, which is made again where a signal has interrupted it.
