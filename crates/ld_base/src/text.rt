@@ -1,7 +1,8 @@
 //! How names are written in lines of text.
 
-ghost use Rattle.std.specs.Prelude.{◌≡◌, ◌<◌, Some, flat_map};
+ghost use Rattle.std.specs.Prelude.{◌≡◌, ◌<◌, Some, IfSome, flat_map};
 ghost use Rattle.std.specs.Fmt.{WritesOnOk};
+ghost use Rattle.std.specs.List.{list_all};
 ghost use Rattle.ld_base.specs.Text.{hex_digit, byte_text, is_plain, name_text, name_or_none};
 ghost use Rattle.ld_base.specs.FaultText.{fault_text};
 
@@ -49,10 +50,32 @@ impl fmt::Display for Escaped {
     }
 }
 
-/// Writes the bytes one after another.
+/// Whether each byte stands for itself.
+fn are_plain(bytes: &[u8]) -> bool
+    ensures { result ≡ list_all is_plain bytes.now }
+{
+    bytes.iter().all(|byte| Escaped(*byte).is_plain())
+}
+
+/// The bytes as text, where each of them stands for itself.
+#[tactic(auto, using(crate::proofs::Plain::plain_bytes))]
+fn plain_text(bytes: &[u8]) -> Option<&str>
+    ensures { IfSome result (λ text. text.now ≡ flat_map byte_text bytes.now) }
+{
+    if are_plain(bytes) {
+        str::from_utf8(bytes).ok()
+    } else {
+        None
+    }
+}
+
+/// Writes the bytes: at once where each stands for itself, as in most names, and else one after another.
 fn write_escaped<W: fmt::Write>(f: &mut fmt::Formatter<W>, bytes: &[u8]) -> fmt::Result
     ensures { WritesOnOk W.write_str_gives f.old result (flat_map byte_text bytes.now) f.new }
 {
+    if let Some(text) = plain_text(bytes) {
+        return f.write_str(text);
+    }
     for byte in bytes {
         let escaped = Escaped(*byte);
         write!(f, "{escaped}")?;
