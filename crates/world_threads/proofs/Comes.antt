@@ -16,7 +16,7 @@ use Rattle.world_answers.specs.GuestsPart.Lemmas.Counting.{spare_counts}
 use Rattle.world_threads.specs.Running.{ComesOf}
 use Rattle.world_threads.specs.Threaded.{IsThreaded, left_events}
 use Rattle.world_threads.specs.declared.run.Ran.{Ran}
-use Rattle.world_threads.proofs.Counted.{started_shows}
+use Rattle.world_answers.specs.GuestsPart.Lemmas.Starts.{started_shows}
 use Rattle.world_turns.specs.Counts.{Counts, CountsJoin, ShowInCounts}
 
 module _ (w : Setting) (setup : Setup) (begun : List Event) (between last : Counts) where

@@ -1,6 +1,7 @@
 use Rattle.link_open_plan.specs.Startup.{run_of}
 use Rattle.world_answers.specs.GuestsPart.Counting.{counts_at}
-use Rattle.plain_world.proofs.Counting.{goes_up, started_shows, unstarted_shows}
+use Rattle.world_answers.specs.GuestsPart.Lemmas.Starts.{started_shows}
+use Rattle.plain_world.proofs.Counting.{goes_up, unstarted_shows}
 use Rattle.plain_world.proofs.world.World.start.Goals as goal
 
 pub set_up-requires-clause-starts : goal.set_up-requires-clause-starts
