@@ -1,25 +1,26 @@
--- The definitions of an object in the order of their names.
+-- The definitions of an object in the order of their names, and of their names and versions.
 use Rattle.std.proofs.Common.{◌≡◌, ℕ, ◌+◌, ◌<◌, ◌≤◌, Bool, true, false, true≢false, cond, List, [], ◌∷◌, ◌++◌, length, get_or, take, drop, refl, sym, ap, subst, ◌∙◌, inl, inr, arith}
 use Rattle.std.specs.Prelude.{◌⊎◌, ◌==◌, ◌&&◌, ◌||◌, not, nat_le, Option, Some, None, slice_get}
+use Rattle.std.specs.Cmp.{IsTotalOrder, tied_then}
 use Rattle.std.specs.Cmp.Lexicographic.{slice_cmp, texts_ties}
 use Rattle.std.specs.List.{All, AllWithin, filter, range_with_len}
 use Rattle.std.specs.List.Sorted.{IsNonDecreasingBy, IsPartitionPoint, IsPartitionedBy, IsPermutation, IsSortedBy, IsStableBy}
-use Rattle.std.specs.Option.{option_map_or}
+use Rattle.std.specs.Option.{option_map_or, option_to_list}
 use Rattle.std.specs.Ordering.{is_eq, is_gt, is_lt, nat_cmp, ordering_index, ordering_reverse}
 use Rattle.std.specs.Str.{bytes_eq}
 use Rattle.std.specs.declared.cmp.Ordering.{Ordering}
 use Rattle.std.specs.declared.cmp.Ordering.TheVariants.{Less, Equal, Greater}
 use Rattle.std.proofs.lemmas.Bool.{cases_Bool}
-use Rattle.std.proofs.lemmas.Cmp.{nat_list_cmp_total}
+use Rattle.std.proofs.lemmas.Cmp.{alike_right, lists_total, nat_list_cmp_total}
 use Rattle.std.proofs.lemmas.List.{append-nil, get_or-take, get_or-drop, length-take-le, length-drop, take-append-drop}
 use Rattle.std.proofs.lemmas.List.Elements.{All-cons, All-head, All-nil, All-tail, All-weaker, filter-append}
 use Rattle.std.proofs.lemmas.List.Sorted.{All-permutation, IsNonDecreasingBy-drop, searchable_from_sorted}
-use Rattle.std.proofs.lemmas.Slice.Eq.{bytes_eq-Decides}
-use Rattle.ld_base.specs.Pick.{is_offer}
+use Rattle.ld_base.specs.Pick.{has_version, is_named, is_offer}
 use Rattle.ld_base.specs.Symbol.{is_visible_definition, version_index}
+use Rattle.ld_base.specs.Version.{version_name}
 use Rattle.ld_base.specs.declared.object.Object.{Object}
 use Rattle.ld_base.specs.declared.object.Symbol.{Symbol}
-use Rattle.scope_lists.specs.NameOrder.{IsNameOrder, exported, exports, has_name, is_offered, name_at, offers_of}
+use Rattle.scope_lists.specs.NameOrder.{IsOrder, by_name, by_version, exported, exports, global_offers_of, has_key, is_global_at, is_offered, name_at, offers_of, version_at, versions_of}
 
 -- ---- what passes a test
 
@@ -77,7 +78,7 @@ between_is_filter p low high below above equal start end xs le most first second
     ∙ ap (λ (ys : List ℕ). filter p (take end rest) ++ ys) (filter_none p (drop end rest) behind)
     ∙ append-nil (filter p (take end rest)) ∙ filter_all p (take end rest) inside)
 
--- ---- how names compare
+-- ---- how keys compare
 
 less_apart : (r : Ordering) → is_lt r ≡ true → is_eq r ≡ false
 less_apart Less is = refl
@@ -115,102 +116,172 @@ tie Less = refl
 tie Equal = refl
 tie Greater = refl
 
-module _ (o : Object) where
+equal : (r : Ordering) → is_eq r ≡ true → r ≡ Equal
+equal Less is = absurd (true≢false (sym is))
+equal Equal is = refl
+equal Greater is = absurd (true≢false (sym is))
+
+-- keys are one or two names
+abbrev Key : Type 0
+Key = List (List ℕ)
+
+abbrev compared : Key → Key → Ordering
+compared = slice_cmp (slice_cmp nat_cmp)
+
+pub keys_total : IsTotalOrder compared
+keys_total = lists_total nat_list_cmp_total
+
+module _ (key : ℕ → Key) where
   abbrev pub precedes : ℕ → ℕ → Bool
-  precedes x y = is_lt (slice_cmp nat_cmp (name_at o x) (name_at o y))
+  precedes x y = is_lt (compared (key x) (key y))
 
-  abbrev pub before : List ℕ → ℕ → Bool
-  before name k = is_lt (slice_cmp nat_cmp (name_at o k) name)
+  abbrev pub before : Key → ℕ → Bool
+  before sought k = is_lt (compared (key k) sought)
 
-  abbrev pub not_behind : List ℕ → ℕ → Bool
-  not_behind name k = not (is_gt (slice_cmp nat_cmp (name_at o k) name))
+  abbrev pub not_behind : Key → ℕ → Bool
+  not_behind sought k = not (is_gt (compared (key k) sought))
 
-  -- where a name stands
-  module _ (name : List ℕ) where
+  -- where a key stands
+  module _ (sought : Key) where
+    abbrev at : ℕ → Ordering
+    at k = compared (key k) sought
+
     abbrev rank : ℕ → ℕ
-    rank k = ordering_index (slice_cmp nat_cmp (name_at o k) name)
+    rank k = ordering_index (at k)
 
     rises : (xs : List ℕ) → IsSortedBy precedes xs → IsNonDecreasingBy rank xs
-    rises xs sorted = searchable_from_sorted nat_list_cmp_total (name_at o) xs name sorted
+    rises xs sorted = searchable_from_sorted keys_total key xs sought sorted
 
-    pub parted_before : (xs : List ℕ) → IsSortedBy precedes xs → IsPartitionedBy (before name) xs
-    parted_before xs sorted i j d le lt is =
-        less_before (slice_cmp nat_cmp (name_at o (get_or xs i d)) name) (slice_cmp nat_cmp (name_at o (get_or xs j d)) name) (rises xs sorted i j d le lt) is
+    pub parted_before : (xs : List ℕ) → IsSortedBy precedes xs → IsPartitionedBy (before sought) xs
+    parted_before xs sorted i j d le lt is = less_before (at (get_or xs i d)) (at (get_or xs j d)) (rises xs sorted i j d le lt) is
 
-    pub parted_behind : (start : ℕ) (xs : List ℕ) → IsSortedBy precedes xs → IsPartitionedBy (not_behind name) (drop start xs)
+    pub parted_behind : (start : ℕ) (xs : List ℕ) → IsSortedBy precedes xs → IsPartitionedBy (not_behind sought) (drop start xs)
     parted_behind start xs sorted i j d le lt is =
-        no_greater_before (slice_cmp nat_cmp (name_at o (get_or (drop start xs) i d)) name) (slice_cmp nat_cmp (name_at o (get_or (drop start xs) j d)) name)
-        (IsNonDecreasingBy-drop rank start xs (rises xs sorted) i j d le lt) is
+        no_greater_before (at (get_or (drop start xs) i d)) (at (get_or (drop start xs) j d)) (IsNonDecreasingBy-drop rank start xs (rises xs sorted) i j d le lt) is
 
     pub found_between : (start end : ℕ) (xs : List ℕ) → start ≤ length xs → end ≤ length (drop start xs)
-        → IsPartitionPoint (λ k. before name k ≡ true) (λ k. before name k ≡ false) xs start
-        → IsPartitionPoint (λ k. not_behind name k ≡ true) (λ k. not_behind name k ≡ false) (drop start xs) end
-        → take end (drop start xs) ≡ filter (has_name o name) xs
+        → IsPartitionPoint (λ k. before sought k ≡ true) (λ k. before sought k ≡ false) xs start
+        → IsPartitionPoint (λ k. not_behind sought k ≡ true) (λ k. not_behind sought k ≡ false) (drop start xs) end
+        → take end (drop start xs) ≡ filter (has_key key sought) xs
     found_between start end xs low most first second =
-        between_is_filter (has_name o name) (before name) (not_behind name) (λ k is. same k ∙ less_apart (ordered k) is) (λ k is. same k ∙ greater_apart (ordered k) is)
-        (λ k is other. same k ∙ equal_between (ordered k) is other) start end xs low most first second
-      where
-        ordered : ℕ → Ordering
-        ordered k = slice_cmp nat_cmp (name_at o k) name
+        between_is_filter (has_key key sought) (before sought) (not_behind sought) (λ k is. less_apart (at k) is) (λ k is. greater_apart (at k) is) (λ k is other. equal_between (at k) is other)
+        start end xs low most first second
 
-        same : (k : ℕ) → has_name o name k ≡ is_eq (slice_cmp nat_cmp (name_at o k) name)
-        same k = texts_ties (name_at o k) name
+  -- ---- what a sort by keys leaves
 
-  -- ---- what a sort by names leaves
-
-  -- none has the name, or one has
-  any_named : (name : List ℕ) (xs : List ℕ) → All (Gives (has_name o name) false) xs ⊎ ((x : ℕ) × (has_name o name x ≡ true))
-  any_named name [] = inl (All-nil (Gives (has_name o name) false))
-  any_named name (x ∷ xs) =
-      elim (cases_Bool (has_name o name x)) [
+  -- none has the key, or one has
+  any_keyed : (sought : Key) (xs : List ℕ) → All (Gives (has_key key sought) false) xs ⊎ ((x : ℕ) × (has_key key sought x ≡ true))
+  any_keyed sought [] = inl (All-nil (Gives (has_key key sought) false))
+  any_keyed sought (x ∷ xs) =
+      elim (cases_Bool (has_key key sought x)) [
         | inl is ↦ inr (x, is)
-        | inr apart ↦ elim (any_named name xs) [
-          | inl none ↦ inl (All-cons (Gives (has_name o name) false) x xs apart none)
+        | inr apart ↦ elim (any_keyed sought xs) [
+          | inl none ↦ inl (All-cons (Gives (has_key key sought) false) x xs apart none)
           | inr some ↦ inr some
         ]
       ]
 
-  -- those that tie with one of a name have the name
-  ties_named : (name : List ℕ) (x : ℕ) → has_name o name x ≡ true → (k : ℕ) → (not (precedes x k) && not (precedes k x)) ≡ has_name o name k
-  ties_named name x is k =
-      let r : Ordering = slice_cmp nat_cmp (name_at o k) (name_at o x) in
-      let named : name_at o x ≡ name = (bytes_eq-Decides (name_at o x) name).0 is in
-      ap (λ q. not (is_lt q) && not (is_lt r)) (nat_list_cmp_total.antisymm (name_at o x) (name_at o k)) ∙ tie r ∙ sym (texts_ties (name_at o k) (name_at o x)) ∙ ap (bytes_eq (name_at o k)) named
+  -- those that tie with one of a key have the key
+  ties_keyed : (sought : Key) (x : ℕ) → has_key key sought x ≡ true → (k : ℕ) → (not (precedes x k) && not (precedes k x)) ≡ has_key key sought k
+  ties_keyed sought x is k =
+      let r : Ordering = compared (key k) (key x) in
+      ap (λ q. not (is_lt q) && not (is_lt r)) (keys_total.antisymm (key x) (key k)) ∙ tie r ∙ ap is_eq (alike_right keys_total (key x) sought (key k) (equal (compared (key x) sought) is))
 
-  stays : (name : List ℕ) (xs ys : List ℕ) → IsPermutation xs ys → IsStableBy precedes xs ys → filter (has_name o name) ys ≡ filter (has_name o name) xs
-  stays name xs ys moved stable =
-      elim (any_named name xs) [
-        | inl none ↦ filter_none (has_name o name) ys (All-permutation (Gives (has_name o name) false) xs ys moved none) ∙ sym (filter_none (has_name o name) xs none)
+  stays : (sought : Key) (xs ys : List ℕ) → IsPermutation xs ys → IsStableBy precedes xs ys → filter (has_key key sought) ys ≡ filter (has_key key sought) xs
+  stays sought xs ys moved stable =
+      elim (any_keyed sought xs) [
+        | inl none ↦ filter_none (has_key key sought) ys (All-permutation (Gives (has_key key sought) false) xs ys moved none) ∙ sym (filter_none (has_key key sought) xs none)
         | inr some ↦
             let x : ℕ = some.0 in
-            let same : (k : ℕ) → (not (precedes x k) && not (precedes k x)) ≡ has_name o name k = ties_named name x some.1 in
-            sym (filter_same (λ k. not (precedes x k) && not (precedes k x)) (has_name o name) same ys) ∙ stable x ∙ filter_same (λ k. not (precedes x k) && not (precedes k x)) (has_name o name) same xs
+            let same : (k : ℕ) → (not (precedes x k) && not (precedes k x)) ≡ has_key key sought k = ties_keyed sought x some.1 in
+            sym (filter_same (λ k. not (precedes x k) && not (precedes k x)) (has_key key sought) same ys) ∙ stable x ∙ filter_same (λ k. not (precedes x k) && not (precedes k x)) (has_key key sought) same xs
       ]
 
-  offered_named : (name : List ℕ) (k : ℕ) → (exports o (is_offered o) k && has_name o name k) ≡ exports o (is_offer o name) k
-  offered_named name k = by (slice_get o.symbols k)
+  pub ordered : (xs ys : List ℕ) → IsPermutation xs ys → IsSortedBy precedes ys → IsStableBy precedes xs ys → IsOrder key xs ys
+  ordered xs ys moved sorted stable = record { sorted = sorted; runs = λ sought. stays sought xs ys moved stable }
+
+-- ---- what has a name, and a name and a version
+
+is_name : (one name : List ℕ) → is_eq (compared (one ∷ []) (name ∷ [])) ≡ bytes_eq one name
+is_name one name = sym (tied_then (slice_cmp nat_cmp one name) Equal) ∙ with_true (is_eq (slice_cmp nat_cmp one name)) ∙ sym (texts_ties one name)
+  where
+    with_true : (b : Bool) → (b && true) ≡ b
+    with_true true = refl
+    with_true false = refl
+
+is_both : (one name version : List ℕ) (other : Option (List ℕ)) → is_eq (compared (one ∷ option_to_list other) (name ∷ version ∷ [])) ≡ (bytes_eq one name && is_named version other)
+is_both one name version None = sym (tied_then (slice_cmp nat_cmp one name) Less) ∙ ap (λ b. b && false) (sym (texts_ties one name))
+is_both one name version (Some other) =
+    sym (tied_then (slice_cmp nat_cmp one name) (compared (other ∷ []) (version ∷ []))) ∙ ap (λ b. b && is_eq (compared (other ∷ []) (version ∷ []))) (sym (texts_ties one name))
+    ∙ ap (λ b. bytes_eq one name && b) (is_name other version)
+
+module _ (o : Object) (name : List ℕ) where
+  abbrev Everything : List ℕ
+  Everything = range_with_len 0 (length o.symbols)
+
+  -- those of the definitions that have a key are those that pass a test
+  of_key : (key : ℕ → Key) (sought : Key) (test : Symbol → Bool) → ((k : ℕ) → (exports o (is_offered o) k && has_key key sought k) ≡ exports o test k)
+      → filter (has_key key sought) (exported o (is_offered o)) ≡ exported o test
+  of_key key sought test same =
+      filter_twice (has_key key sought) (exports o (is_offered o)) Everything ∙ filter_same (λ k. exports o (is_offered o) k && has_key key sought k) (exports o test) same Everything
+
+  nothing : (l e : Bool) → ((l && false) && e) ≡ (l && false)
+  nothing true e = refl
+  nothing false e = refl
+
+  moved : (l v e n : Bool) → ((l && (v && n)) && e) ≡ (l && ((v && e) && n))
+  moved false v e n = refl
+  moved true false e n = refl
+  moved true true false true = refl
+  moved true true false false = refl
+  moved true true true true = refl
+  moved true true true false = refl
+
+  pub named : filter (has_key (by_name o) (name ∷ [])) (exported o (is_offered o)) ≡ offers_of o name
+  named = of_key (by_name o) (name ∷ []) (is_offer o name) (λ k. ap (λ b. exports o (is_offered o) k && b) (is_name (name_at o k) name) ∙ by k (slice_get o.symbols k))
     where
-      moved : (l v e n : Bool) → ((l && (v && n)) && e) ≡ (l && ((v && e) && n))
-      moved false v e n = refl
-      moved true false e n = refl
-      moved true true false true = refl
-      moved true true false false = refl
-      moved true true true true = refl
-      moved true true true false = refl
+      by : (k : ℕ) (s : Option Symbol) → ((nat_le o.first_exported k && option_map_or (is_offered o) s false) && bytes_eq (option_map_or (λ (x : Symbol). x.name) s []) name) ≡ (nat_le o.first_exported k && option_map_or (is_offer o name) s false)
+      by k None = nothing (nat_le o.first_exported k) (bytes_eq [] name)
+      by k (Some s) = moved (nat_le o.first_exported k) (is_visible_definition s) (bytes_eq s.name name) (not o.has_versym || not (version_index s == 0))
 
-      nothing : (l e : Bool) → ((l && false) && e) ≡ (l && false)
-      nothing true e = refl
-      nothing false e = refl
+  pub versioned : (version : List ℕ) → filter (has_key (by_version o) (name ∷ version ∷ [])) (exported o (is_offered o)) ≡ versions_of o name version
+  versioned version =
+      of_key (by_version o) (name ∷ version ∷ []) (λ s. is_offer o name s && has_version o version s)
+      (λ k. ap (λ b. exports o (is_offered o) k && b) (is_both (name_at o k) name version (version_at o k)) ∙ by k (slice_get o.symbols k))
+    where
+      moved_both : (l v e n w : Bool) → ((l && (v && n)) && (e && w)) ≡ (l && (((v && e) && n) && w))
+      moved_both false v e n w = refl
+      moved_both true false e n w = refl
+      moved_both true true false true w = refl
+      moved_both true true false false w = refl
+      moved_both true true true true w = refl
+      moved_both true true true false w = refl
 
-      by : (s : Option Symbol) → ((nat_le o.first_exported k && option_map_or (is_offered o) s false) && bytes_eq (option_map_or (λ (x : Symbol). x.name) s []) name) ≡ (nat_le o.first_exported k && option_map_or (is_offer o name) s false)
-      by None = nothing (nat_le o.first_exported k) (bytes_eq [] name)
-      by (Some s) = moved (nat_le o.first_exported k) (is_visible_definition s) (bytes_eq s.name name) (not o.has_versym || not (version_index s == 0))
+      by : (k : ℕ) (s : Option Symbol)
+          → ((nat_le o.first_exported k && option_map_or (is_offered o) s false)
+          && (bytes_eq (option_map_or (λ (x : Symbol). x.name) s []) name && is_named version (option_map_or (λ (x : Symbol). version_name o (version_index x)) s None)))
+          ≡ (nat_le o.first_exported k && option_map_or (λ x. is_offer o name x && has_version o version x) s false)
+      by k None = nothing (nat_le o.first_exported k) (bytes_eq [] name && false)
+      by k (Some s) = moved_both (nat_le o.first_exported k) (is_visible_definition s) (bytes_eq s.name name) (not o.has_versym || not (version_index s == 0)) (has_version o version s)
 
-  pub ordered_by_name : (xs ys : List ℕ) → xs ≡ exported o (is_offered o) → IsPermutation xs ys → IsSortedBy precedes ys → IsStableBy precedes xs ys → IsNameOrder o ys
-  ordered_by_name xs ys are moved sorted stable = record {
-    sorted = sorted;
-    offers = λ name.
-        let all : List ℕ = range_with_len 0 (length o.symbols) in
-        stays name xs ys moved stable ∙ ap (filter (has_name o name)) are ∙ filter_twice (has_name o name) (exports o (is_offered o)) all
-        ∙ filter_same (λ k. exports o (is_offered o) k && has_name o name k) (exports o (is_offer o name)) (offered_named name) all;
-  }
+  pub global : filter (has_key (by_name o) (name ∷ [])) (filter (is_global_at o) (exported o (is_offered o))) ≡ global_offers_of o name
+  global =
+      let p : ℕ → Bool = has_key (by_name o) (name ∷ []) in
+      let q : ℕ → Bool = is_global_at o in
+      let all : List ℕ = exported o (is_offered o) in
+      filter_twice p q all ∙ filter_same (λ k. q k && p k) (λ k. p k && q k) (λ k. swapped (q k) (p k)) all ∙ sym (filter_twice q p all) ∙ ap (filter q) named
+      ∙ filter_twice q (exports o (is_offer o name)) Everything ∙ filter_same (λ k. exports o (is_offer o name) k && q k) (exports o (λ s. is_offer o name s && s.version == 1)) (λ k. by k (slice_get o.symbols k)) Everything
+    where
+      swapped : (a b : Bool) → (a && b) ≡ (b && a)
+      swapped true true = refl
+      swapped true false = refl
+      swapped false true = refl
+      swapped false false = refl
+
+      joined : (a b c : Bool) → ((a && b) && c) ≡ (a && (b && c))
+      joined true b c = refl
+      joined false b c = refl
+
+      by : (k : ℕ) (s : Option Symbol) → ((nat_le o.first_exported k && option_map_or (is_offer o name) s false) && option_map_or (λ (x : Symbol). x.version == 1) s false) ≡ (nat_le o.first_exported k && option_map_or (λ x. is_offer o name x && x.version == 1) s false)
+      by k None = nothing (nat_le o.first_exported k) false
+      by k (Some s) = joined (nat_le o.first_exported k) (is_offer o name s) (s.version == 1)

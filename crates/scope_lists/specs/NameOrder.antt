@@ -1,15 +1,19 @@
--- Where the definitions of a name stand in an object (gABI, "Symbol Table").
-use Rattle.std.specs.Prelude.{◌≡◌, ℕ, ◌&&◌, ◌||◌, ◌==◌, not, nat_le, Bool, false, List, [], filter, length, slice_get}
+-- Where the definitions of a name stand in an object (gABI, "Symbol Table"; Drepper, "ELF Symbol Versioning").
+use Rattle.std.specs.Prelude.{◌≡◌, ℕ, ◌&&◌, ◌||◌, ◌==◌, not, nat_le, Bool, true, false, List, [], ◌∷◌, filter, length, slice_get, Option, None, IfSome}
 use Rattle.std.specs.Cmp.Lexicographic.{slice_cmp}
 use Rattle.std.specs.List.{range_with_len}
 use Rattle.std.specs.List.Sorted.{IsSortedByKey}
-use Rattle.std.specs.Option.{option_map_or}
-use Rattle.std.specs.Ordering.{nat_cmp}
-use Rattle.std.specs.Str.{bytes_eq}
+use Rattle.std.specs.Option.{option_map_or, option_to_list}
+use Rattle.std.specs.Ordering.{is_eq, nat_cmp}
 use Rattle.ld_base.specs.declared.object.Object.{Object}
 use Rattle.ld_base.specs.declared.object.Symbol.{Symbol}
-use Rattle.ld_base.specs.Pick.{is_offer}
+use Rattle.ld_base.specs.Pick.{has_version, is_offer}
 use Rattle.ld_base.specs.Symbol.{is_visible_definition, version_index}
+use Rattle.ld_base.specs.Version.{version_name}
+use Rattle.scope_lists.specs.VersionPlaces.Places.{places_of}
+use Rattle.scope_lists.specs.declared.name_order.NameOrder.{NameOrder}
+use Rattle.scope_lists.specs.declared.name_order.keys.Keys.{Keys}
+use Rattle.scope_lists.specs.declared.name_order.keys.Keys.TheVariants as keys
 
 -- the symbol at an index may be exported, and passes
 abbrev pub exports : Object → (Symbol → Bool) → ℕ → Bool
@@ -23,20 +27,57 @@ exported o test = filter (exports o test) (range_with_len 0 (length o.symbols))
 abbrev pub offers_of : Object → List ℕ → List ℕ
 offers_of o name = exported o (is_offer o name)
 
--- ---- their order by name: for the code of this crate alone
+-- those of them whose version has a name
+abbrev pub versions_of : Object → List ℕ → List ℕ → List ℕ
+versions_of o name version = exported o (λ s. is_offer o name s && has_version o version s)
+
+-- those of them that every reference with a version takes
+abbrev pub global_offers_of : Object → List ℕ → List ℕ
+global_offers_of o name = exported o (λ s. is_offer o name s && s.version == 1)
+
+-- ---- their order: for the code of this crate alone
 
 -- a definition of some name
 abbrev pub is_offered : Object → Symbol → Bool
 is_offered o s = is_visible_definition s && (not o.has_versym || not (version_index s == 0))
 
--- the name of the symbol at an index
+-- the version word of the symbol at an index is 1
+abbrev pub is_global_at : Object → ℕ → Bool
+is_global_at o k = option_map_or (λ s. s.version == 1) (slice_get o.symbols k) false
+
+-- the name of the symbol at an index, and that of its version
 abbrev pub name_at : Object → ℕ → List ℕ
 name_at o k = option_map_or (λ s. s.name) (slice_get o.symbols k) []
 
-abbrev pub has_name : Object → List ℕ → ℕ → Bool
-has_name o name k = bytes_eq (name_at o k) name
+abbrev pub version_at : Object → ℕ → Option (List ℕ)
+version_at o k = option_map_or (λ s. version_name o (version_index s)) (slice_get o.symbols k) None
 
--- the definitions of an object in the order of their names, those of one name ascending
-pub record IsNameOrder (o : Object) (order : List ℕ) : Type 0 where
-  pub sorted : IsSortedByKey (name_at o) (slice_cmp nat_cmp) order
-  pub offers : (name : List ℕ) → filter (has_name o name) order ≡ offers_of o name
+-- what a symbol is put in the order of: its name, or its name and then that of its version if it has one
+abbrev pub by_name : Object → ℕ → List (List ℕ)
+by_name o k = name_at o k ∷ []
+
+abbrev pub by_version : Object → ℕ → List (List ℕ)
+by_version o k = name_at o k ∷ option_to_list (version_at o k)
+
+abbrev pub key_of : Keys → ℕ → List (List ℕ)
+key_of (keys.Names o) k = by_name o.now k
+key_of (keys.Versions o names) k = by_version o.now k
+
+-- the names of versions that are known are those of the object
+abbrev pub KnowsVersions : Keys → Type 0
+KnowsVersions (keys.Names o) = Unit
+KnowsVersions (keys.Versions o names) = IfSome names (λ n. n.now ≡ places_of o.now)
+
+abbrev pub has_key : (ℕ → List (List ℕ)) → List (List ℕ) → ℕ → Bool
+has_key key sought k = is_eq (slice_cmp (slice_cmp nat_cmp) (key k) sought)
+
+-- some indexes in the order of their keys, those of one key as they stood
+pub record IsOrder (key : ℕ → List (List ℕ)) (indexes order : List ℕ) : Type 0 where
+  pub sorted : IsSortedByKey key (slice_cmp (slice_cmp nat_cmp)) order
+  pub runs : (sought : List (List ℕ)) → filter (has_key key sought) order ≡ filter (has_key key sought) indexes
+
+-- the definitions of an object in the order of their names, and where it has versions in that of their names and versions
+pub record IsNameOrder (o : Object) (order : NameOrder) : Type 0 where
+  pub names : IsOrder (by_name o) (exported o (is_offered o)) order.by_name.items
+  pub versions : o.has_versym ≡ true → IsOrder (by_version o) (exported o (is_offered o)) order.by_version.items
+  pub globals : o.has_versym ≡ true → IsOrder (by_name o) (filter (is_global_at o) (exported o (is_offered o))) order.global.items

@@ -10,7 +10,7 @@
 //!
 //! `version_places` knows where the names of an object's versions stand, by their index. Of objects in whose hash
 //! tables walks are long (a file may put all its names into one bucket) the definitions are put in the order of
-//! their names ([`NameOrder`]), if there are so many references that it pays.
+//! their names and versions ([`NameOrder`]), if there are so many references that it pays.
 #![tactic(auto)]
 
 mod breadth_first;

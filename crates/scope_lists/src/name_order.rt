@@ -1,28 +1,29 @@
-//! Finding the definitions of a name by their order, whatever the hash tables of their object are.
+//! Finding the definitions of a name, or of a name and a version, by their order, whatever the hash tables of
+//! their object are.
 
-ghost use Rattle.std.specs.Prelude.{◌≡◌, not, IfOk};
-ghost use Rattle.std.specs.Cmp.Lexicographic.{slice_cmp};
-ghost use Rattle.std.specs.Ordering.{is_gt, is_lt, nat_cmp};
-ghost use Rattle.scope_lists.specs.NameOrder.{exported, exports, is_offered, name_at};
+mod keys;
 
+ghost use Rattle.std.specs.Prelude.{◌≡◌, ◌==◌, filter, IfOk};
+ghost use Rattle.scope_lists.specs.NameOrder.{exported, exports, is_global_at, is_offered};
+
+use crate::name_order::keys::{Key, Keys};
+use crate::version_places::VersionNames;
 use ld_base::{Object, Symbol};
 use std::alloc::{AllocError, Global};
-use std::cmp::Ordering;
-use std::marker::Model;
+
+/// The version word of a definition that every reference with a version takes (VER_NDX_GLOBAL; Drepper, "ELF Symbol
+/// Versioning").
+const GLOBAL: u16 = 1;
 
 /// The definitions of an object in the order of their names. They tell the indexes of symbols and hold no name,
-/// so that they are asked together with the object. Contracts see the indexes.
+/// so that they are asked together with the object.
 #[derive(Drop)]
 pub struct NameOrder {
-    indexes: Vec<u32>,
-}
-
-impl Model for NameOrder {
-    ghost use Rattle.std.specs.Prelude.{List, ℕ};
-
-    ghost Value = { List ℕ };
-
-    ghost view = { λ order. order.indexes.items };
+    by_name: Vec<u32>,
+    /// Those of one name in the order of the names of their versions; none where the object has no versions.
+    by_version: Vec<u32>,
+    /// Those that every reference with a version takes, by name; none where the object has no versions.
+    global: Vec<u32>,
 }
 
 /// Whether a symbol is a definition that other objects may ask for by its name.
@@ -51,40 +52,30 @@ fn offered(alloc: Global, object: &Object) -> Result<Vec<u32>, AllocError>
         .collect(alloc)
 }
 
-/// The name of the symbol at an index.
-fn name_at(object: &Object, index: u32) -> &[u8]
-    ensures { result.now ≡ name_at object.now index }
+/// Whether the version word of the symbol at an index is that which every reference with a version takes.
+fn is_global_at(object: &Object, index: u32) -> bool
+    ensures { result ≡ is_global_at object.now index }
 {
     match object.symbols.as_slice().get(index as usize) {
-        Some(symbol) => symbol.name.as_bytes(),
-        None => &[],
+        Some(symbol) => symbol.version == GLOBAL,
+        None => false,
     }
 }
 
-/// How the name of the symbol at an index compares with another.
-fn compare_name(object: &Object, index: u32, name: &[u8]) -> Ordering
-    ensures { result ≡ slice_cmp nat_cmp (name_at object.now index) name.now }
+/// The indexes of the definitions with that word, ascending.
+fn global(alloc: Global, object: &Object) -> Result<Vec<u32>, AllocError>
+    ensures { IfOk result (λ indexes. indexes.items ≡ filter (is_global_at object.now) (exported object.now (is_offered object.now))) }
 {
-    name_at(object, index).cmp(name)
-}
-
-/// Whether the name of the symbol at an index comes before another.
-fn is_before(object: &Object, index: u32, name: &[u8]) -> bool
-    ensures { result ≡ is_lt (slice_cmp nat_cmp (name_at object.now index) name.now) }
-{
-    compare_name(object, index, name).is_lt()
-}
-
-/// Whether it doesn't come behind it.
-fn is_not_behind(object: &Object, index: u32, name: &[u8]) -> bool
-    ensures { result ≡ not (is_gt (slice_cmp nat_cmp (name_at object.now index) name.now)) }
-{
-    !compare_name(object, index, name).is_gt()
+    (0..object.symbols.len())
+        .filter(|index| is_offered_at(object, *index))
+        .filter(|index| is_global_at(object, *index))
+        .collect(alloc)
 }
 
 impl NameOrder {
-    ghost use Rattle.std.specs.Prelude.{◌≡◌, IfOk};
-    ghost use Rattle.scope_lists.specs.NameOrder.{IsNameOrder, offers_of};
+    ghost use Rattle.std.specs.Prelude.{◌≡◌, true, IfOk, IfSome};
+    ghost use Rattle.scope_lists.specs.NameOrder.{IsNameOrder, global_offers_of, offers_of, versions_of};
+    ghost use Rattle.scope_lists.specs.VersionPlaces.Places.{places_of};
 
     /// That of an object.
     ///
@@ -94,9 +85,22 @@ impl NameOrder {
     pub(crate) fn of(alloc: Global, object: &Object) -> Result<Self, AllocError>
         ensures { IfOk result (IsNameOrder object.now) }
     {
-        let mut indexes = offered(alloc, object)?;
-        indexes.sort_by(|one, other| compare_name(object, *one, name_at(object, *other)))?;
-        Ok(NameOrder { indexes })
+        let by_name = Keys::Names(object).order(offered(alloc, object)?)?;
+        if !object.has_versym {
+            return Ok(NameOrder {
+                by_name,
+                by_version: Vec::new(alloc),
+                global: Vec::new(alloc),
+            });
+        }
+        let names = VersionNames::of(alloc, object)?;
+        let by_version = Keys::versions(object, &names).order(offered(alloc, object)?)?;
+        let global = Keys::Names(object).order(global(alloc, object)?)?;
+        Ok(NameOrder {
+            by_name,
+            by_version,
+            global,
+        })
     }
 
     /// The indexes of the definitions of a name in the object whose order this is, ascending.
@@ -104,11 +108,44 @@ impl NameOrder {
         requires { IsNameOrder object.now self.now }
         ensures { result.now ≡ offers_of object.now name.now }
     {
-        let indexes = self.indexes.as_slice();
-        let start = indexes.partition_point(|index| is_before(object, *index, name));
-        let (_, rest) = indexes.split_at(start);
-        let end = rest.partition_point(|index| is_not_behind(object, *index, name));
-        let (found, _) = rest.split_at(end);
-        found
+        let key = Key {
+            name,
+            version: None,
+        };
+        Keys::Names(object).run(self.by_name.as_slice(), &key)
+    }
+
+    /// The same of those whose version has a name, where the object has versions (Drepper, "ELF Symbol
+    /// Versioning"). The names of its versions may be known: each is then found in one step.
+    pub fn offers_of_version(
+        &self,
+        object: &Object,
+        names: Option<&VersionNames>,
+        name: &[u8],
+        version: &[u8],
+    ) -> &[u32]
+        requires versions { object.now.has_versym ≡ true }
+        requires names { IfSome names (λ n. n.now ≡ places_of object.now) }
+        requires order { IsNameOrder object.now self.now }
+        ensures { result.now ≡ versions_of object.now name.now version.now }
+    {
+        let key = Key {
+            name,
+            version: Some(version),
+        };
+        Keys::Versions(object, names).run(self.by_version.as_slice(), &key)
+    }
+
+    /// The same of those that every reference with a version takes: their version word is 1.
+    pub fn global_offers(&self, object: &Object, name: &[u8]) -> &[u32]
+        requires versions { object.now.has_versym ≡ true }
+        requires order { IsNameOrder object.now self.now }
+        ensures { result.now ≡ global_offers_of object.now name.now }
+    {
+        let key = Key {
+            name,
+            version: None,
+        };
+        Keys::Names(object).run(self.global.as_slice(), &key)
     }
 }

@@ -1,24 +1,21 @@
 -- What a reference takes of the definitions of a name, in the order of their indexes.
-use Rattle.std.proofs.Common.{Bor, ◌≡◌, ◌↔◌, ◌∙◌, sym, ap, ℕ, zero, suc, ◌+◌, ◌<◌, ◌≤◌, Bool, true, false, cond, List, [], ◌∷◌, length, refl, arith, inl, inr}
-use Rattle.std.specs.Prelude.{◌==◌, ◌&&◌, ◌||◌, not, nat_le, count_by, filter, if◌then◌else◌, Option, Some, None, slice_get}
+use Rattle.std.proofs.Common.{◌≡◌, ◌↔◌, ◌∙◌, sym, ap, ℕ, zero, suc, ◌+◌, ◌<◌, ◌≤◌, Bool, true, false, cond, List, [], ◌∷◌, length, refl, arith, inl, inr}
+use Rattle.std.specs.Prelude.{◌==◌, ◌&&◌, ◌||◌, ◌⊎◌, not, min, nat_le, count_by, filter, if◌then◌else◌, Option, Some, None, slice_get}
 use Rattle.std.specs.List.{find, range_with_len}
 use Rattle.std.specs.Option.{MatchOption, option_map_or}
-use Rattle.std.proofs.lemmas.Bool.{and_from, and_parts, cases_eq, eqb-true, le-leb, leb-true}
+use Rattle.std.proofs.lemmas.Bool.{and_from, and_parts, cases_eq, cases_lt, eqb-true, le-leb, leb-true, or_cases}
 use Rattle.std.proofs.lemmas.List.Sums.{sum_by-cons}
 use Rattle.std.proofs.lemmas.Option.{slice_get_within}
 use Rattle.ld_base.specs.declared.linking.Want.{Want}
 use Rattle.ld_base.specs.declared.linking.Want.TheVariants as want
 use Rattle.ld_base.specs.declared.object.Object.{Object}
 use Rattle.ld_base.specs.declared.object.Symbol.{Symbol}
-use Rattle.ld_base.specs.Marks.{is_marked}
-use Rattle.ld_base.specs.Pick.{carries, is_offer, is_wanted, names_no_version, pick_of}
-use Rattle.ld_base.specs.Symbol.{is_hidden_version, version_index}
+use Rattle.ld_base.specs.Pick.{has_version, is_offer, is_wanted, names_no_version, pick_of}
+use Rattle.ld_base.specs.Symbol.{is_hidden_version}
 use Rattle.ld_base.specs.Taken.{Exports, ExportsNone, IsLeast, IsOnly, Takes, fits, in_sight}
-use Rattle.scope_lists.specs.NameOrder.{exports, offers_of}
-use Rattle.sym_lookup.specs.SymFind.Best.{passes}
-use Rattle.sym_lookup.specs.SymFind.Offers.{in_sight_at, is_wanted_at, passes_at}
-use Rattle.sym_lookup.specs.declared.sym_find.best.Test.{Test}
-use Rattle.sym_lookup.specs.declared.sym_find.best.Test.TheVariants as tests
+use Rattle.scope_lists.specs.NameOrder.{exports, global_offers_of, offers_of, versions_of}
+use Rattle.sym_lookup.specs.SymFind.Best.{least}
+use Rattle.sym_lookup.specs.SymFind.Offers.{in_sight_at, is_wanted_at}
 
 -- ---- what is found among those that pass
 
@@ -58,35 +55,6 @@ count_of_those p q (x ∷ xs) = by (q x) (count_of_those p q xs) ∙ sym (counte
     by : (b : Bool) → count_by p (filter q xs) ≡ count_by (λ y. q y && p y) xs → count_by p (cond b (x ∷ filter q xs) (filter q xs)) ≡ cond (b && p x) 1 0 + count_by (λ y. q y && p y) xs
     by true later = counted p x (filter q xs) ∙ ap (λ n. cond (p x) 1 0 + n) later
     by false later = omega (arith, later)
-
--- ---- versions that are marked
-
-module _ (o : Object) (w : Want) where
-  found_same : (test : Test) → ((s : Symbol) → passes test s ≡ is_wanted o w s) → (offers : List ℕ) → find (passes_at o test) offers ≡ find (is_wanted_at o w) offers
-  found_same test same offers = find_same (passes_at o test) (is_wanted_at o w) (λ k. by (slice_get o.symbols k)) offers
-    where
-      by : (s : Option Symbol) → option_map_or (passes test) s false ≡ option_map_or (is_wanted o w) s false
-      by None = refl
-      by (Some s) = same s
-
-pub version_found : (o : Object) (version offers : List ℕ) (carriers : Bor (List ℕ)) → ((index : ℕ) → index < 0x8000 → is_marked carriers.now index ≡ carries o version index)
-    → find (passes_at o (tests.Version carriers)) offers ≡ find (is_wanted_at o (want.Version version)) offers
-version_found o version offers carriers marked =
-    found_same o (want.Version version) (tests.Version carriers) (λ s. ap (λ b. b || s.version == 1) (marked (version_index s) (omega arith))) offers
-
-pub just_found : (o : Object) (version offers : List ℕ) (carriers : Bor (List ℕ)) → ((index : ℕ) → index < 0x8000 → is_marked carriers.now index ≡ carries o version index)
-    → find (passes_at o (tests.Just carriers)) offers ≡ find (is_wanted_at o (want.Dlvsym version)) offers
-just_found o version offers carriers marked = found_same o (want.Dlvsym version) (tests.Just carriers) (λ s. marked (version_index s) (omega arith)) offers
-
-pub plain_found : (o : Object) (offers : List ℕ) → find (passes_at o (tests.Base 2)) offers ≡ find (is_wanted_at o want.Plain) offers
-plain_found o offers = found_same o want.Plain (tests.Base 2) (λ s. refl) offers
-
-pub dlsym_found : (o : Object) (offers : List ℕ) → find (passes_at o (tests.Base 1)) offers ≡ find (is_wanted_at o want.Dlsym) offers
-dlsym_found o offers = found_same o want.Dlsym (tests.Base 1) (λ s. twice (version_index s == 1)) offers
-  where
-    twice : (b : Bool) → (b || b) ≡ b
-    twice true = refl
-    twice false = refl
 
 -- ---- numbers that follow one another
 
@@ -251,6 +219,79 @@ module _ (o : Object) (test : Symbol → Bool) where
       let one = alone_one (exports o test) 0 (length o.symbols) k (omega arith) (within k has) (from_exports k has) (λ j above below other. only j (to_exports j other)) in
       ap (λ n. if n == 1 then find (exports o test) All else None) one ∙ least_found k (has, λ j other. let same = only j other in omega (arith, same))
 
+-- ---- what passes one of two tests: the first is the lesser of the two firsts
+
+abbrev lesser : Option ℕ → Option ℕ → Option ℕ
+lesser found None = found
+lesser found (Some k) = least found k
+
+or_true : (b : Bool) → (b || true) ≡ true
+or_true true = refl
+or_true false = refl
+
+module _ (o : Object) (one other : Symbol → Bool) where
+  abbrev either : Symbol → Bool
+  either s = one s || other s
+
+  from_one : (k : ℕ) → Exports o one k → Exports o either k
+  from_one k (from, s, at, is) = (from, s, at, ap (λ b. b || other s) is)
+
+  from_other : (k : ℕ) → Exports o other k → Exports o either k
+  from_other k (from, s, at, is) = (from, s, at, ap (λ b. one s || b) is ∙ or_true (one s))
+
+  of_either : (k : ℕ) → Exports o either k → Exports o one k ⊎ Exports o other k
+  of_either k (from, s, at, is) = elim (or_cases (one s) (other s) is) [
+    | inl first ↦ inl (from, s, at, first)
+    | inr second ↦ inr (from, s, at, second)
+  ]
+
+  first_of_either : (a b : Option ℕ) → find (exports o one) (All o one) ≡ a → find (exports o other) (All o other) ≡ b → find (exports o either) (All o either) ≡ lesser a b
+  first_of_either None None nowhere none = by (find (exports o either) (All o either)) refl
+    where
+      by : (found : Option ℕ) → find (exports o either) (All o either) ≡ found → found ≡ None
+      by None e = refl
+      by (Some k) e = elim (of_either k (leasts o either (Some k) e).0) [
+        | inl has ↦ absurd (leasts o one None nowhere k has)
+        | inr has ↦ absurd (leasts o other None none k has)
+      ]
+  first_of_either (Some i) None first none =
+      let is = leasts o one (Some i) first in
+      least_found o either i (
+        from_one i is.0,
+        λ k has. elim (of_either k has) [
+          | inl here ↦ is.1 k here
+          | inr there ↦ absurd (leasts o other None none k there)
+        ],
+      )
+  first_of_either None (Some j) nowhere second =
+      let is = leasts o other (Some j) second in
+      least_found o either j (
+        from_other j is.0,
+        λ k has. elim (of_either k has) [
+          | inl here ↦ absurd (leasts o one None nowhere k here)
+          | inr there ↦ is.1 k there
+        ],
+      )
+  first_of_either (Some i) (Some j) first second =
+      let is = leasts o one (Some i) first in
+      let other_is = leasts o other (Some j) second in
+      elim (cases_lt j i) [
+        | inr le ↦ least_found o either i (
+          from_one i is.0,
+          λ k has. elim (of_either k has) [
+            | inl here ↦ is.1 k here
+            | inr there ↦ let above = other_is.1 k there in omega (arith, le, above)
+          ],
+        ) ∙ ap Some (let same : i ≡ min i j = omega (arith, le) in same)
+        | inl lt ↦ least_found o either j (
+          from_other j other_is.0,
+          λ k has. elim (of_either k has) [
+            | inl here ↦ let above = is.1 k here in omega (arith, lt, above)
+            | inr there ↦ other_is.1 k there
+          ],
+        ) ∙ ap Some (let same : j ≡ min i j = omega (arith, lt) in same)
+      ]
+
 -- ---- the definitions of a name
 
 module _ (o : Object) (name : List ℕ) (w : Want) where
@@ -283,11 +324,16 @@ module _ (o : Object) (name : List ℕ) (w : Want) where
   abbrev Everything : List ℕ
   Everything = range_with_len 0 (length o.symbols)
 
+  first_of_both : find (is_wanted_at o w) Offers ≡ find (exports o (λ s. is_offer o name s && is_wanted o w s)) Everything
+  first_of_both =
+      find_of_those (is_wanted_at o w) (exports o (is_offer o name)) Everything
+      ∙ find_same (λ k. exports o (is_offer o name) k && is_wanted_at o w k) (exports o (λ s. is_offer o name s && is_wanted o w s)) (both (is_wanted o w)) Everything
+
   wanted_first : o.has_versym ≡ true → find (is_wanted_at o w) Offers ≡ find (exports o (fits o name w)) Everything
   wanted_first some =
-      find_of_those (is_wanted_at o w) (exports o (is_offer o name)) Everything
-      ∙ find_same (λ k. exports o (is_offer o name) k && is_wanted_at o w k) (exports o (fits o name w))
-      (λ k. both (is_wanted o w) k ∙ same_test (λ s. is_offer o name s && is_wanted o w s) (fits o name w) (λ s. ap (λ b. is_offer o name s && (not b || is_wanted o w s)) (sym some)) k) Everything
+      first_of_both
+      ∙ find_same (exports o (λ s. is_offer o name s && is_wanted o w s)) (exports o (fits o name w))
+      (same_test (λ s. is_offer o name s && is_wanted o w s) (fits o name w) (λ s. ap (λ b. is_offer o name s && (not b || is_wanted o w s)) (sym some))) Everything
 
   any_first : o.has_versym ≡ false → slice_get Offers 0 ≡ find (exports o (fits o name w)) Everything
   any_first none =
@@ -354,3 +400,28 @@ module _ (o : Object) (name : List ℕ) (w : Want) where
     pub any_taken : (r : Option ℕ) → o.has_versym ≡ false → r ≡ slice_get Offers 0 → r ≡ pick_of o name w
     any_taken None without is = unfit_taken (sym (is ∙ any_first without)) (ap (λ b. b && names_no_version w) without)
     any_taken (Some k) without is = first_taken k (sym (is ∙ any_first without))
+
+-- ---- those of them with a version
+
+module _ (o : Object) (name version : List ℕ) where
+  abbrev just : Symbol → Bool
+  just s = is_offer o name s && has_version o version s
+
+  abbrev global : Symbol → Bool
+  global s = is_offer o name s && s.version == 1
+
+  pub just_first : (found : Option ℕ) → found ≡ slice_get (versions_of o name version) 0 → found ≡ find (is_wanted_at o (want.Dlvsym version)) (offers_of o name)
+  just_first found is = is ∙ first_of_those (exports o just) (All o just) ∙ sym (first_of_both o name (want.Dlvsym version))
+
+  pub version_first : (a b : Option ℕ) → a ≡ find (is_wanted_at o (want.Dlvsym version)) (offers_of o name) → b ≡ slice_get (global_offers_of o name) 0
+      → lesser a b ≡ find (is_wanted_at o (want.Version version)) (offers_of o name)
+  version_first a b is first =
+      let w : Want = want.Version version in
+      let wanted : Symbol → Bool = λ s. is_offer o name s && is_wanted o w s in
+      let same : (s : Symbol) → wanted s ≡ either o just global s = λ s. apart (is_offer o name s) (has_version o version s) (s.version == 1) in
+      sym (first_of_both o name w ∙ find_same (exports o wanted) (exports o (either o just global)) (same_test o name w wanted (either o just global) same) (All o just)
+      ∙ first_of_either o just global a b (sym (is ∙ first_of_both o name (want.Dlvsym version))) (sym (first ∙ first_of_those (exports o global) (All o global))))
+    where
+      apart : (x y z : Bool) → (x && (y || z)) ≡ (x && y || x && z)
+      apart true y z = refl
+      apart false y z = refl

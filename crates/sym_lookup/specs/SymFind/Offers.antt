@@ -5,16 +5,10 @@ use Rattle.ld_base.specs.declared.linking.Want.{Want}
 use Rattle.ld_base.specs.declared.object.Object.{Object}
 use Rattle.ld_base.specs.Pick.{is_wanted}
 use Rattle.ld_base.specs.Symbol.{is_hidden_version}
-use Rattle.sym_lookup.specs.SymFind.Best.{passes}
-use Rattle.sym_lookup.specs.declared.sym_find.best.Test.{Test}
 
 -- the version of the definition at an index is one that is wanted
 abbrev pub is_wanted_at : Object → Want → ℕ → Bool
 is_wanted_at o want k = option_map_or (is_wanted o want) (slice_get o.symbols k) false
-
--- it passes a test
-abbrev pub passes_at : Object → Test → ℕ → Bool
-passes_at o test k = option_map_or (passes test) (slice_get o.symbols k) false
 
 -- it isn't hidden
 abbrev pub in_sight_at : Object → ℕ → Bool

@@ -72,7 +72,7 @@ impl Sight {
 }
 
 /// The lesser of the first so far and one more.
-fn least(first: Option<u32>, index: u32) -> Option<u32>
+pub(crate) fn least(first: Option<u32>, index: u32) -> Option<u32>
     ensures { result ≡ least first index }
 {
     match first {

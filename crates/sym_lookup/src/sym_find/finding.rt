@@ -20,9 +20,9 @@ use scope_lists::{VersionNames, version_name};
 
 /// The index whose version every reference takes, and the first that an object gives (Drepper, "ELF
 /// Symbol Versioning").
-pub(crate) const GLOBAL: u16 = 1;
+const GLOBAL: u16 = 1;
 
-pub(crate) const FIRST_DEFINED: u16 = 2;
+const FIRST_DEFINED: u16 = 2;
 
 /// Finding a symbol by the hash table of its object.
 pub trait Find {

@@ -1,84 +1,77 @@
 //! Which of the definitions of a name a reference takes, where they stand in order.
 
-ghost use Rattle.std.specs.Prelude.{◌≡◌, ◌==◌, not, false, None, count_by, if◌then◌else◌, slice_get, IfSome};
+ghost use Rattle.std.specs.Prelude.{◌≡◌, ◌==◌, true, None, count_by, if◌then◌else◌, IfSome};
 ghost use Rattle.std.specs.List.{find};
-ghost use Rattle.std.specs.Option.{option_map_or};
 ghost use Rattle.ld_base.specs.Pick.{pick_of};
-ghost use Rattle.ld_base.specs.Symbol.{is_hidden_version};
-ghost use Rattle.scope_lists.specs.NameOrder.{IsNameOrder};
+ghost use Rattle.scope_lists.specs.NameOrder.{IsNameOrder, offers_of};
 ghost use Rattle.scope_lists.specs.VersionPlaces.Places.{places_of};
-ghost use Rattle.sym_lookup.specs.SymFind.Offers.{in_sight_at, is_wanted_at, passes_at};
+ghost use Rattle.sym_lookup.specs.SymFind.Offers.{in_sight_at, is_wanted_at};
 ghost use Rattle.sym_lookup.specs.SymFind.Reference.{want_as};
 
-use crate::sym_find::best::Test;
-use crate::sym_find::finding::{FIRST_DEFINED, GLOBAL, is_wanted_at};
+use crate::sym_find::best::least;
+use crate::sym_find::finding::is_wanted_at;
 use crate::sym_find::reference::{Asked, Sought};
-use ld_base::{Carriers, Object, Want, one_pick};
+use ld_base::{Object, Want, one_pick};
 use scope_lists::{NameOrder, VersionNames};
 
-/// Whether the version of the definition at an index passes a test.
-fn passes_at(object: &Object, test: Test, index: u32) -> bool
-    ensures { result ≡ passes_at object.now test.entry index }
+/// The first definition that a relocation with a version takes: one of this version, or one whose version all take.
+fn first_of_version(
+    object: &Object,
+    names: Option<&VersionNames>,
+    order: &NameOrder,
+    name: &[u8],
+    version: &[u8],
+) -> Option<u32>
+    requires versions { object.now.has_versym ≡ true }
+    requires names { IfSome names (λ n. n.now ≡ places_of object.now) }
+    requires order { IsNameOrder object.now order.now }
+    ensures { result ≡ find (is_wanted_at object.now (Want.Version version.now)) (offers_of object.now name.now) }
 {
-    match object.symbols.as_slice().get(index as usize) {
-        Some(symbol) => test.passes(symbol),
-        None => false,
+    let just = first_of_just(object, names, order, name, version);
+    match order.global_offers(object, name).first() {
+        Some(global) => least(just, *global),
+        None => just,
     }
 }
 
-/// The first of these whose version does.
-fn first_passing(object: &Object, test: Test, offers: &[u32]) -> Option<u32>
-    ensures { result ≡ find (passes_at object.now test.entry) offers.now }
+/// The first that dlvsym takes.
+fn first_of_just(
+    object: &Object,
+    names: Option<&VersionNames>,
+    order: &NameOrder,
+    name: &[u8],
+    version: &[u8],
+) -> Option<u32>
+    requires versions { object.now.has_versym ≡ true }
+    requires names { IfSome names (λ n. n.now ≡ places_of object.now) }
+    requires order { IsNameOrder object.now order.now }
+    ensures { result ≡ find (is_wanted_at object.now (Want.Dlvsym version.now)) (offers_of object.now name.now) }
 {
-    offers
-        .iter()
-        .copied()
-        .find(|index| passes_at(object, test, *index))
+    let offers = order.offers_of_version(object, names, name, version);
+    offers.first().copied()
 }
 
-/// The first of these that a reference takes which names a version.
-fn first_of_version(object: &Object, version: &[u8], offers: &[u32]) -> Option<u32>
-    ensures { result ≡ find (is_wanted_at object.now (Want.Version version.now)) offers.now }
-{
-    let carriers = Carriers::new(object, version);
-    first_passing(object, Test::Version(&carriers), offers)
-}
-
-/// The first of these that dlvsym takes.
-fn first_of_just(object: &Object, version: &[u8], offers: &[u32]) -> Option<u32>
-    ensures { result ≡ find (is_wanted_at object.now (Want.Dlvsym version.now)) offers.now }
-{
-    let carriers = Carriers::new(object, version);
-    first_passing(object, Test::Just(&carriers), offers)
-}
-
-/// The first of these whose version is one that is asked for.
-fn first_by_version(object: &Object, asked: Asked, offers: &[u32]) -> Option<u32>
-    ensures { result ≡ find (is_wanted_at object.now (want_as asked.entry)) offers.now }
-{
-    match asked {
-        Asked::Version(version) => first_of_version(object, version, offers),
-        Asked::Plain => first_passing(object, Test::Base(FIRST_DEFINED), offers),
-        Asked::Dlsym => first_passing(object, Test::Base(GLOBAL), offers),
-        Asked::Dlvsym(version) => first_of_just(object, version, offers),
-    }
-}
-
-/// The same. Most often it is the first of all: versions are marked only where it isn't.
+/// The first whose version is one that is asked for.
 fn first_wanted(
     object: &Object,
     names: Option<&VersionNames>,
+    order: &NameOrder,
+    name: &[u8],
     asked: Asked,
-    offers: &[u32],
 ) -> Option<u32>
-    requires { IfSome names (λ n. n.now ≡ places_of object.now) }
-    ensures { result ≡ find (is_wanted_at object.now (want_as asked.entry)) offers.now }
+    requires versions { object.now.has_versym ≡ true }
+    requires names { IfSome names (λ n. n.now ≡ places_of object.now) }
+    requires order { IsNameOrder object.now order.now }
+    ensures { result ≡ find (is_wanted_at object.now (want_as asked.entry)) (offers_of object.now name.now) }
 {
-    let first = *offers.first()?;
-    if is_wanted_at(object, names, asked, first) {
-        Some(first)
-    } else {
-        first_by_version(object, asked, offers)
+    match asked {
+        Asked::Version(version) => first_of_version(object, names, order, name, version),
+        Asked::Plain | Asked::Dlsym => order
+            .offers(object, name)
+            .iter()
+            .copied()
+            .find(|index| is_wanted_at(object, names, asked, *index)),
+        Asked::Dlvsym(version) => first_of_just(object, names, order, name, version),
     }
 }
 
@@ -129,14 +122,14 @@ pub(crate) fn pick_ordered(
     ensures { result ≡ pick_of object.now sought.now.name sought.now.want }
 {
     one_pick();
-    let offers = order.offers(object, sought.name());
+    let name = sought.name();
     if !object.has_versym {
-        return offers.first().copied();
+        return order.offers(object, name).first().copied();
     }
     let asked = sought.asked();
-    match first_wanted(object, names, asked, offers) {
+    match first_wanted(object, names, order, name, asked) {
         Some(index) => Some(index),
-        None if asked.names_no_version() => only_in_sight(object, offers),
+        None if asked.names_no_version() => only_in_sight(object, order.offers(object, name)),
         None => None,
     }
 }

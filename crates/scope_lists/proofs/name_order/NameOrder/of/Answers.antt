@@ -1,15 +1,24 @@
-use Rattle.std.proofs.Common.{ap, rules}
-use Rattle.std.specs.Ordering.{is_lt}
-use Rattle.std.proofs.lemmas.Cmp.{nat_list_cmp_total}
-use Rattle.std.proofs.lemmas.Fn.{always_returns_same}
-use Rattle.std.proofs.lemmas.List.Sorted.{ranks_by}
-use Rattle.scope_lists.specs.NameOrder.{name_at}
-use Rattle.scope_lists.proofs.ByName.{ordered_by_name, precedes}
+use Rattle.std.proofs.Common.{◌≡◌, List, ℕ, false, true≢false, subst, sym, ◌∙◌, rules}
+use Rattle.scope_lists.specs.NameOrder.{IsOrder, by_name, by_version, key_of}
+use Rattle.scope_lists.specs.declared.name_order.keys.Keys.{Keys}
 use Rattle.scope_lists.proofs.name_order.NameOrder.of.Goals as goal
+
+pub returns-then-not-object : goal.returns-then-not-object
+returns-then-not-object c =
+    let o = c.args.object.now in
+    let without : o.has_versym ≡ false = search rules in
+    record {
+      names = subst (λ (xs : List ℕ). IsOrder (by_name o) xs c.in_ok-by_name.by_name.items) c.in_ok-offered.ensures c.in_ok-by_name.ensures;
+      versions = λ some. absurd (true≢false (sym some ∙ without));
+      globals = λ some. absurd (true≢false (sym some ∙ without));
+    }
 
 pub returns : goal.returns
 returns c =
     let o = c.args.object.now in
-    let weak = ranks_by nat_list_cmp_total (name_at o) in
-    let compares = always_returns_same _ _ _ (λ a r f k. search (rules, ap is_lt)) in
-    ordered_by_name o _ _ c.in_ok-indexes.ensures c.in_ok-sort_by.ensures.permutation (c.in_ok-sort_by.ensures.sorted (precedes o) weak compares) (c.in_ok-sort_by.ensures.stable (precedes o) weak compares)
+    let versions = subst (λ (keys : Keys). IsOrder (key_of keys) c.in_ok-offered-2.field-0.items c.in_ok-by_version.by_version.items) c.versions.ensures c.in_ok-by_version.ensures in
+    record {
+      names = subst (λ (xs : List ℕ). IsOrder (by_name o) xs c.in_ok-by_name.by_name.items) c.in_ok-offered.ensures c.in_ok-by_name.ensures;
+      versions = λ some. subst (λ (xs : List ℕ). IsOrder (by_version o) xs c.in_ok-by_version.by_version.items) c.in_ok-offered-2.ensures versions;
+      globals = λ some. subst (λ (xs : List ℕ). IsOrder (by_name o) xs c.in_ok-global-2.global.items) c.in_ok-global.ensures c.in_ok-global-2.ensures;
+    }

@@ -1,6 +1,16 @@
-use Rattle.std.proofs.Common.{◌∙◌}
-use Rattle.sym_lookup.proofs.SymFind.Offers.{version_found}
+use Rattle.std.proofs.Common.{ap, sym, List, ℕ, None, Some, ◌∙◌}
+use Rattle.std.specs.Prelude.{slice_get}
+use Rattle.std.specs.Option.{option_copied}
+use Rattle.sym_lookup.proofs.SymFind.Offers.{version_first}
 use Rattle.sym_lookup.proofs.sym_find.offers.first_of_version.Goals as goal
 
-pub returns : goal.returns
-returns c = c.first_passing.ensures ∙ version_found c.args.object.now c.args.version.now c.args.offers.now (record { ref_ptr = (0, 0); now = c.new-carriers.result }) c.new-carriers.ensures
+pub returns-in-Some : goal.returns-in-Some
+returns-in-Some c =
+    c.least.ensures
+    ∙ version_first c.args.object.now c.args.name.now c.args.version.now c.first_of_just-just.result (Some c.in-Some.global.now) c.first_of_just-just.ensures
+    (ap option_copied (sym c.in-Some.is) ∙ c.first.ensures.value ∙ ap (λ (l : List ℕ). slice_get l 0) c.global_offers.ensures)
+
+pub returns-in-None : goal.returns-in-None
+returns-in-None c =
+    version_first c.args.object.now c.args.name.now c.args.version.now c.first_of_just-just.result None c.first_of_just-just.ensures
+    (ap option_copied (sym c.in-None.is) ∙ c.first.ensures.value ∙ ap (λ (l : List ℕ). slice_get l 0) c.global_offers.ensures)
