@@ -35,6 +35,7 @@ goes_none ranges generation k l none same = record {
   in_order = none_go ranges generation (length k.events);
   all = all_of_none (λ a. (kept_at k (place_of a)).role) ranges [] none;
   only = only_none (λ a. (kept_at k (place_of a)).role);
+  words = λ x a there. absurd (none_in x there);
 }
 
 -- where there are no ranges nothing went
@@ -58,6 +59,7 @@ gone_beside past e gone none have = subst (HaveGone (past ++ e ∷ [])) (append-
   in_order = none_go (taken (after past) e) (step (after past) e).generation (length past);
   all = all_of_none (role_at (after past)) (taken (after past) e) [] none;
   only = only_none (role_at (after past));
+  words = λ x a there. absurd (none_in x there);
 }))
 
 -- events that leave memory take nothing

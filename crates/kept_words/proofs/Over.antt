@@ -76,7 +76,7 @@ trails_are_true w begun k h state j kept low settled all = record {
       (λ (waits : (row_of k h).pending ≡ Some x.grant). absurd (none_waits x.grant waits))
       (λ (done : (f : Fate) × Contains (row_of k h).settled (record { grant = x.grant; fate = f })). by_lost x there found done.0 done.1)
       (all.granted x there);
-  fetched = are_code k.events k (number_in k.events) j.trail kept.words kept.gone all.fetched;
+  fetched = are_code k.events k (number_in k.events) kept.words kept.gone j.trail all.fetched;
 }
   where
     none_waits : (g : Grant) → (row_of k h).pending ≡ Some g → ⊥

@@ -3,7 +3,7 @@ use Rattle.std.proofs.Common.{◌≡◌, ◌≢◌, ◌⊎◌, ⊎_elim, inl, in
 use Rattle.std.specs.List.{Contains}
 use Rattle.std.proofs.lemmas.Bool.{cases_Bool, false≢true, not-true}
 use Rattle.std.proofs.lemmas.List.Elements.{Contains-append_left}
-use Rattle.ld_base.specs.declared.linking.Role.TheVariants.{None as NoRole, Slot}
+use Rattle.ld_base.specs.declared.linking.Role.TheVariants.{None as NoRole, Rx, Slot}
 use Rattle.history_event.specs.declared.event.Event.{Event}
 use Rattle.history_event.specs.declared.event.Event.TheVariants as events
 use Rattle.history_event.specs.declared.event.OpenAnswer.TheVariants as opens
@@ -29,7 +29,7 @@ use Rattle.slot_bind.specs.Rows.{handed_over}
 use Rattle.history_state.specs.After.{after}
 use Rattle.history_state.specs.Allowed.{Allowed, AllowedIn}
 use Rattle.history_state.specs.Changes.{ChangesMemory, StandsApart, reserved, taken}
-use Rattle.history_state.specs.Memory.{covers, is_in, role_at}
+use Rattle.history_state.specs.Memory.{covers, first_word_at, is_in, role_at}
 use Rattle.history_state.specs.Objects.{has}
 use Rattle.history_state.specs.Setting.{Setting}
 use Rattle.history_state.specs.State.{Linked, State}
@@ -48,7 +48,7 @@ use Rattle.history_memory.specs.Lemmas.Images.{ImagesBack}
 use Rattle.hart_trails.specs.Entries.{entry_behind}
 use Rattle.hart_trails.specs.Trails.{is_granting}
 use Rattle.word_holds.specs.Shared.{IsOfState}
-use Rattle.kept_words.specs.Gone.{AllGo, HaveGone, OnlyGo}
+use Rattle.kept_words.specs.Gone.{AllGo, HadWords, HaveGone, OnlyGo}
 use Rattle.kept_words.specs.Handed.{IsIssued}
 use Rattle.kept_words.specs.Keeping.{IsRemadeView, remakes_memory}
 use Rattle.kept_words.specs.Kept.{AreKept, AreRows, AreSettled, LostHaveSeen}
@@ -333,6 +333,12 @@ module _ (w : Setting) (begun : List Event) (k l : KeeperView) (kept : AreKept w
     once = view.goes.only.once;
   }
 
+  -- and what could be run was the image's word
+  words_went : HadWords (first_word_at (after k.events)) view.goes.more
+  words_went x a there rx word place =
+      let role : role_at (after k.events) a ≡ Rx = sym (only_went.had x a there word place) ∙ rx in
+      view.goes.words x a there rx word place ∙ kept.words.word a word (inr (inl role))
+
   kept_mid : AreKept w begun (handed_over h entry (counted e mid))
   kept_mid = record {
     few = kept.few;
@@ -360,7 +366,7 @@ module _ (w : Setting) (begun : List Event) (k l : KeeperView) (kept : AreKept w
         (IsIssued.of_event k.events [] e refl own is.granting (sym new.1 ∙ entry_is)))
         (handed_issued (counted e mid) h entry (view.long.0, kept.long.1) low m x there);
     handed = handed_stays begun mid h e entry (view.long.0, kept.long.1) low (begun_short w begun k kept) own (ap (λ (x : Entry). x.mark) entry_is) (ap (λ (x : Entry). x.number) entry_is) kept.handed;
-    gone = subst (HaveGone (k.events ++ e ∷ [])) (sym view.goes.are) (HaveGone.by_event k.events e k.retired view.goes.more kept.gone (record { in_order = view.goes.in_order; all = all_went; only = only_went }));
+    gone = subst (HaveGone (k.events ++ e ∷ [])) (sym view.goes.are) (HaveGone.by_event k.events e k.retired view.goes.more kept.gone (record { in_order = view.goes.in_order; all = all_went; only = only_went; words = words_went }));
   }
 
   pub remade_kept : AreKept w begun (handed_over h entry (counted e l))

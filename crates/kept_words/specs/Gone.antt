@@ -1,8 +1,8 @@
 -- What unmappings take away: each role of a word of their ranges, those of slots first, at the generation and behind the events that each of them comes
--- at. For the loops that take them, and for whoever reads what a run promises.
+-- at, with the words that could be run. For the loops that take them, and for whoever reads what a run promises.
 use Rattle.std.specs.Prelude.{◌≡◌, ◌≢◌, ℕ, true, List, [], ◌∷◌, ◌++◌, length, Contains}
 use Rattle.ld_base.specs.declared.linking.Role.{Role}
-use Rattle.ld_base.specs.declared.linking.Role.TheVariants.{None as NoRole, Slot}
+use Rattle.ld_base.specs.declared.linking.Role.TheVariants.{None as NoRole, Rx, Slot}
 use Rattle.history_event.specs.declared.event.Event.{Event}
 use Rattle.history_event.specs.declared.event.Range.{Range}
 use Rattle.word_rule.specs.declared.view.KeeperView.{KeeperView}
@@ -12,7 +12,7 @@ use Rattle.word_rule.specs.Layout.{place_of}
 use Rattle.word_rule.specs.Views.{kept_at}
 use Rattle.history_state.specs.After.{after}
 use Rattle.history_state.specs.Changes.{taken}
-use Rattle.history_state.specs.Memory.{covers, role_at}
+use Rattle.history_state.specs.Memory.{covers, first_word_at, role_at}
 use Rattle.history_state.specs.Step.{step}
 use Rattle.history_memory.specs.Memory.{IsDoubleword}
 
@@ -65,6 +65,10 @@ pub record OnlyGo (role : ℕ → Role) (gone : List Retired) : Type 0 where
   pub had : (x : Retired) (a : ℕ) → Contains gone x → IsDoubleword a → place_of a ≡ x.at → x.role ≡ role a
   pub once : AreApart gone
 
+-- the word of an RX doubleword that is among them is the one at its address
+abbrev pub HadWords : (ℕ → ℕ) → List Retired → Type 0
+HadWords word gone = (x : Retired) (a : ℕ) → Contains gone x → x.role ≡ Rx → IsDoubleword a → place_of a ≡ x.at → x.value ≡ word a
+
 -- so they did between two views
 pub record Goes (ranges : List Range) (generation : ℕ) (k l : KeeperView) : Type 0 where
   pub more : List Retired
@@ -72,12 +76,15 @@ pub record Goes (ranges : List Range) (generation : ℕ) (k l : KeeperView) : Ty
   pub in_order : GoInOrder ranges generation (length k.events) more
   pub all : AllGo (λ a. (kept_at k (place_of a)).role) ranges more
   pub only : OnlyGo (λ a. (kept_at k (place_of a)).role) more
+  pub words : HadWords (λ a. (kept_at k (place_of a)).value) more
 
--- what went by an event behind these: the roles of the words that it takes away, all of them and no others, at the generation behind it
+-- what went by an event behind these: the roles of the words that it takes away, all of them and no others, at the generation behind it. What could be run
+-- was the image's word
 pub record WentBy (past : List Event) (e : Event) (more : List Retired) : Type 0 where
   pub in_order : GoInOrder (taken (after past) e) (step (after past) e).generation (length past) more
   pub all : AllGo (role_at (after past)) (taken (after past) e) more
   pub only : OnlyGo (role_at (after past)) more
+  pub words : HadWords (first_word_at (after past)) more
 
 -- all that went by these events, one after another
 pub data HaveGone : List Event → List Retired → Type 0 where

@@ -1,5 +1,6 @@
 //! What holds where the keeper's view is that of a state.
 
+ghost use Rattle.kept_words.specs.Fetched.{EachIsCode};
 ghost use Rattle.kept_words.specs.Handed.{AnsweredStays, CountedStays, HandedStays, IssuedStays, PostedHandedStays, TailHasNone};
 ghost use Rattle.kept_words.specs.Keeping.{AlikeKept, AnsweredKept, AskedKept, AwaitedIsAlike, PendingStay, QuietKept, RemadeKept};
 ghost use Rattle.kept_words.specs.Over.{FatesAreExchanges, OverIsWhole, TrailsAreTrue};
@@ -106,6 +107,11 @@ pub fn remade_is_kept()
     history_state::none_is_lazy();
     remade_stays();
 }
+
+/// What harts fetched, said of each fetch by itself.
+pub fn fetches_are_code()
+    ensures { EachIsCode }
+{}
 
 /// Once what became of each grant is known, and which one won where another was lost, the journal is a whole history;
 /// and a hart's trail that was joined once it had taken all says what the journal says.

@@ -10,7 +10,7 @@
 //! The whole record stays while calls are served: [`records_stay`] where an event leaves memory,
 //! [`remade_is_kept`] where one remakes it, [`grants_are_posted`] where a grant is made, and
 //! [`asks_settle`] where grants are asked for. Once all of them are known, the journal is a whole history,
-//! and harts' trails say what it says ([`run_is_over`]).
+//! and harts' trails say what it says ([`run_is_over`], [`fetches_are_code`]).
 //!
 //! There is no code but laws: functions without a body, whose contract is the law.
 #![tactic(auto)]
@@ -18,6 +18,6 @@
 mod law;
 
 pub use law::{
-    asks_settle, entries_are_events, fates_settle, grants_are_posted, records_stay, remade_is_kept,
-    remade_stays, run_is_over, states_stay,
+    asks_settle, entries_are_events, fates_settle, fetches_are_code, grants_are_posted,
+    records_stay, remade_is_kept, remade_stays, run_is_over, states_stay,
 };

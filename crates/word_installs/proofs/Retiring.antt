@@ -81,20 +81,21 @@ stays_none ranges k l retires d gone = ⊎_elim
     (λ (lost : LostRole ranges retires.more k l d). lost.none)
     (retires.each d)
 
--- what has a role had it before
-had_before : {which : Role → Type 0} (ranges : List Range) (k l : KeeperView) → Retires which ranges k l → (d : ℕ) → (kept_at l d).role ≢ NoRole → (kept_at l d).role ≡ (kept_at k d).role
+-- what has a role is as it was
+had_before : {which : Role → Type 0} (ranges : List Range) (k l : KeeperView) → Retires which ranges k l → (d : ℕ) → (kept_at l d).role ≢ NoRole → kept_at l d ≡ kept_at k d
 had_before ranges k l retires d some = ⊎_elim
-    (λ (same : kept_at l d ≡ kept_at k d). ap (λ (x : Kept). x.role) same)
+    (λ (same : kept_at l d ≡ kept_at k d). same)
     (λ (lost : LostRole ranges retires.more k l d). absurd (some lost.none))
     (retires.each d)
 
 -- roles that went, and then others: each is the one that its doubleword had first, and no doubleword stands twice
 had_then : {which other : Role → Type 0} (ranges : List Range) (k l m : KeeperView) (one : Retires which ranges k l) (two : Retires other ranges l m) → (x : Retired) → Contains (one.more ++ two.more) x → HadRole k m x
 had_then ranges k l m one two x there = ⊎_elim
-    (λ (old : Contains one.more x). let was = one.had x old in record { some = was.some; had = was.had; none = stays_none ranges l m two x.at was.none })
+    (λ (old : Contains one.more x). let was = one.had x old in record { some = was.some; had = was.had; value = was.value; none = stays_none ranges l m two x.at was.none })
     (λ (new : Contains two.more x).
     let was = two.had x new in
-    record { some = was.some; had = was.had ∙ had_before ranges k l one x.at (λ none. was.some (was.had ∙ none)); none = was.none })
+    let before : kept_at l x.at ≡ kept_at k x.at = had_before ranges k l one x.at (λ none. was.some (was.had ∙ none)) in
+    record { some = was.some; had = was.had ∙ ap (λ (y : Kept). y.role) before; value = was.value ∙ ap (λ (y : Kept). y.value) before; none = was.none })
     (Contains-append_cases one.more two.more x there)
 
 once_then : {which other : Role → Type 0} (ranges : List Range) (k l m : KeeperView) (one : Retires which ranges k l) (two : Retires other ranges l m) → AreApart (one.more ++ two.more)
@@ -183,7 +184,7 @@ gone_now k l a is = ap (λ (v : KeeperView). (kept_at v (place_of a)).role) is �
 
 -- the role that goes
 abbrev role_of : ℕ → KeeperView → Retired
-role_of d k = record { at = d; role = (kept_at k d).role; generation = k.generation; number = length k.events }
+role_of d k = record { at = d; role = (kept_at k d).role; generation = k.generation; number = length k.events; value = (kept_at k d).value }
 
 retires_one : (which : Role → Type 0) (ranges : List Range) (k l : KeeperView) (a : ℕ) → IsCovered ranges a → (kept_at k (place_of a)).role ≢ NoRole → which (kept_at k (place_of a)).role
     → l ≡ retired (place_of a) k → Retires which ranges k l
@@ -199,7 +200,7 @@ retires_one which ranges k l a covered some such is = record {
   more = role_of (place_of a) k ∷ [];
   are = ap (λ (v : KeeperView). v.retired) is;
   gone = λ x there. subst (λ (y : Retired). which y.role × IsInside ranges y.at × (y.generation ≡ k.generation) × (y.number ≡ length k.events)) (only_in (role_of (place_of a) k) x there) (such, (a, covered, refl), refl, refl);
-  had = λ x there. subst (HadRole k l) (only_in (role_of (place_of a) k) x there) (record { some = some; had = refl; none = gone_now k l a is });
+  had = λ x there. subst (HadRole k l) (only_in (role_of (place_of a) k) x there) (record { some = some; had = refl; value = refl; none = gone_now k l a is });
   once = ((λ y there. absurd (none_in y there)), tt);
   only = is ∙ ap (λ (v : KeeperView). record k { words = v.words; shown = v.shown; retired = v.retired }) (sym is);
 }
@@ -381,6 +382,7 @@ is_unmapped ranges k l m n generation is decided one two gone = record {
       had = λ x a there word place. (both.had x there).had ∙ ap (λ (d : ℕ). (kept_at l d).role) (sym place) ∙ was a;
       once = both.once;
     };
+    words = λ x a there rx word place. (both.had x there).value ∙ ap (λ (v : KeeperView). (kept_at v x.at).value) is ∙ ap (λ (d : ℕ). (kept_at k d).value) (sym place);
   };
   decided = λ r there. decided;
   only = both.only ∙ ap (λ (v : KeeperView). record v { words = n.words; shown = n.shown; retired = n.retired }) is

@@ -32,10 +32,11 @@ pub record MayUnmap (k : KeeperView) (ranges : List Range) : Type 0 where
 abbrev pub SlotsGoFirst : List Range → KeeperView → ℕ → Type 0
 SlotsGoFirst ranges k a = ((kept_at k (place_of a)).role ≡ Slot) ⊎ HasNoSlot ranges k
 
--- what went is the role that its doubleword had, which has none any more
+-- what went is the role that its doubleword had, with its word, which has none any more
 pub record HadRole (k l : KeeperView) (x : Retired) : Type 0 where
   pub some : x.role ≢ NoRole
   pub had : x.role ≡ (kept_at k x.at).role
+  pub value : x.value ≡ (kept_at k x.at).value
   pub none : (kept_at l x.at).role ≡ NoRole
 
 -- a doubleword of these ranges lost the role that it had, and has none

@@ -207,7 +207,7 @@ clauses words views g = record {
     );
     one_names = λ m n d a b. let q : hart m ≡ hart n = sym ((g.parts.locks.of_hart m).named d a).1 ∙ ((g.parts.locks.of_hart n).named d b).1 in cc;
     still = λ d low is. holds word g.kept g.hart g.parts (kept_at g.kept d).role (word (value_at d)) (kept_at g.kept d).value is (g.parts.locks.each_word d low).holds;
-    fetched = g.parts.fetches.fetched;
+    fetched = λ m. (g.parts.fetches.each m).fetched;
   };
   slots = slot_clauses word g.kept g.hart g.parts;
   counts = record {

@@ -42,7 +42,7 @@ pub role_comes_and_goes : RoleComesAndGoes
 role_comes_and_goes = (refl, refl, refl, refl)
 
 abbrev went : ℕ → Role → KeeperView → Retired
-went d r v = record { at = d; role = r; generation = v.generation; number = length v.events }
+went d r v = record { at = d; role = r; generation = v.generation; number = length v.events; value = (kept_at v d).value }
 
 pub roles_go_in_order : RolesGoInOrder
 roles_go_in_order k none_yet slot = (

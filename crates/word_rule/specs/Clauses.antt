@@ -59,7 +59,7 @@ pub record LockClauses (word : ℕ → ℕ) (kept : KeeperView) (hart : ℕ → 
   -- an RO or RX doubleword has the value that the keeper knows, whoever has locked it
   pub still : (d : ℕ) → d < doublewords → ((kept_at kept d).role ≡ Ro) ⊎ ((kept_at kept d).role ≡ Rx)
       → word (value_at d) ≡ (kept_at kept d).value
-  -- a fetch found that value in an RX doubleword, unless the doubleword lost that role once
+  -- a fetch found that value in an RX doubleword, or the one that it had when it lost that role, unless the role went while the fetch was under way
   pub fetched : (m : ℕ) → AreFetched (kept_at kept) kept.retired (hart m).trail
 
 -- ---- slots and exchanges

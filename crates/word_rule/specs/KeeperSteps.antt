@@ -48,10 +48,10 @@ abbrev pub keeps_if : ℕ → Bool → KeeperView → KeeperView
 keeps_if d true k = accessing (record { locked = Some d; held = None; last = None }) k
 keeps_if d false k = accessing nothing_locked k
 
--- a doubleword's role is taken away, at this generation and behind these events
+-- a doubleword's role is taken away, at this generation and behind these events; it had this word
 abbrev pub retired : ℕ → KeeperView → KeeperView
 retired d k = record (with_kept d (record (kept_at k d) { role = NoRole }) k) {
-  retired = k.retired ++ record { at = d; role = (kept_at k d).role; generation = k.generation; number = length k.events } ∷ [];
+  retired = k.retired ++ record { at = d; role = (kept_at k d).role; generation = k.generation; number = length k.events; value = (kept_at k d).value } ∷ [];
 }
 
 -- a slot was looked at: a word that isn't the lazy word stays
@@ -248,7 +248,8 @@ pub record AreJoinedOnce (k : KeeperView) : Type 0 where
   pub once : (i n : ℕ) (j l : HartView) → slice_get k.joined i ≡ Some j → slice_get k.joined n ≡ Some l → j.number ≡ l.number → i ≡ n
 
 -- it has taken all that was issued to it, and its row has no call; the fates of its grants are those of its exchanges, which found what
--- was seen of those that it lost; each of its readings of the generation has the last block before it; and each fetch found code, but where a role went
+-- was seen of those that it lost; each of its readings of the generation has the last block before it; and each fetch found code, but for those
+-- that a role crossed which went
 pub record HasTakenAll (k : KeeperView) (m n : ℕ) (j : HartView) : Type 0 where
   pub taken : j.lane.taken ≡ (row_of k m).issued
   pub entries : entries_of j.trail ≡ j.lane.taken

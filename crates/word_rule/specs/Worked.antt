@@ -76,13 +76,14 @@ RoleComesAndGoes =
     × (becomes (keeper_op (keeps.Lock 0 20)) 20 ≡ 28)
     × (becomes (keeper_op (keeps.RetireSlot 0)) 28 ≡ 32)
 
--- a slot's role is taken away, and then another doubleword's: they stand in this order, each at the keeper's generation and count
+-- a slot's role is taken away, and then another doubleword's: they stand in this order, each at the keeper's generation and count, with its word
 abbrev pub RolesGoInOrder : Type 0
 RolesGoInOrder = (k : KeeperView) → k.retired ≡ [] → (kept_at k 0).role ≡ SlotRole
-    → let first : Retired = record { at = 0; role = SlotRole; generation = k.generation; number = length k.events } in
+    → let first : Retired = record { at = 0; role = SlotRole; generation = k.generation; number = length k.events; value = (kept_at k 0).value } in
     ((keeper_after (keeps.RetireSlot 0) k 28).retired ≡ first ∷ [])
     × ((l : KeeperView) → l.retired ≡ first ∷ [] → (kept_at l 1).role ≡ Rx
-    → (keeper_after (keeps.Retire 1 Rx) l 10).retired ≡ first ∷ record { at = 1; role = Rx; generation = l.generation; number = length l.events } ∷ [])
+    → let next : Retired = record { at = 1; role = Rx; generation = l.generation; number = length l.events; value = (kept_at l 1).value } in
+    (keeper_after (keeps.Retire 1 Rx) l 10).retired ≡ first ∷ next ∷ [])
 
 -- a look at a slot whose lazy word is 5 keeps the word found, unless that is 5
 abbrev pub LookKeeps : Type 0

@@ -178,6 +178,8 @@ pub struct Retired {
     pub generation: u64,
     /// How many events had been counted then.
     pub number: u64,
+    /// The word that the keeper had put there last, as `Kept` says.
+    pub value: u64,
 }
 
 /// What a lost grant's exchange found, as the slot showed it to the keeper.

@@ -19,6 +19,7 @@ use Rattle.word_rule.specs.Words.{nobody, keeper, hart, LockIs, Owner, Words}
 use Rattle.word_rule.specs.Calls.{Calls, RowIs}
 use Rattle.word_rule.specs.Slots.{GrantsAre, Slots}
 use Rattle.word_rule.specs.Generations.{Generations}
+use Rattle.word_rule.specs.Fetches.{FetchesFind, StandAmong}
 use Rattle.word_rule.specs.Rule.{IsGuest, Parts}
 use Rattle.word_rule.specs.Lemmas.Put.{ext}
 use Rattle.word_rule.specs.Lemmas.Trails.{none_read}
@@ -113,7 +114,12 @@ first_parts = record {
   slots = subst (λ (p : (ℕ → ℕ) × (ℕ → Kept) × (ℕ → Row)). Slots p.0 p.1 None 0 p.2 (λ m. None) (λ m. [])) (λ i. (words i, knowledge i, rows i)) first_slots;
   generations = subst (λ (p : (ℕ → ℕ) × (ℕ → Row)). Generations p.0 0 p.1 (λ m. [])) (λ i. (words i, rows i)) (record { current = refl; issued = λ m few e c. absurd (nothing e c); kept = λ m few. tt; read = λ m few. none_read 0 });
   losses = λ x there. absurd (nothing x there);
-  fetches = record { looked = λ m d control e rx. let q : None ≡ Some (d, control) = e in absurd (cc); fetched = λ m a bits c. absurd (nothing _ c) };
+  fetches = record {
+    each = λ m. record {
+      fetched = record { crossed = []; among = StandAmong.nothing; each = FetchesFind.nothing };
+      looked = λ d control e rx. let q : None ≡ Some (d, control) = e in absurd (cc);
+    };
+  };
 }
   where
     words : (λ i. 0) ≡ slice_index first_words

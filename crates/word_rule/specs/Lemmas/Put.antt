@@ -41,6 +41,12 @@ module _ {A : Type 0} where
       (λ (e : j ≡ i). subst (λ n. put (λ x. get_or l x d) i a n ≡ get_or (set l i a) n d) (sym e) (put_here (λ x. get_or l x d) i a ∙ sym (set_there l i a d low)))
       (λ (apart : j ≢ i). put_else (λ x. get_or l x d) i a j apart ∙ sym (set_at l i j a d apart)))
 
+-- so it is with two functions that are changed at one number
+pub put_both : {A B : Type 0} (P : A → B → Type 0) (f : ℕ → A) (g : ℕ → B) (i : ℕ) (a : A) (b : B) → ((j : ℕ) → j ≢ i → P (f j) (g j)) → P a b → (j : ℕ) → P (put f i a j) (put g i b j)
+put_both P f g i a b others mine j = dite (ℕ_discrete j i)
+    (λ (e : j ≡ i). subst (λ n. P (put f i a n) (put g i b n)) (sym e) (subst (λ x. P x (put g i b i)) (sym (put_here f i a)) (subst (P a) (sym (put_here g i b)) mine)))
+    (λ (apart : j ≢ i). subst (λ x. P x (put g i b j)) (sym (put_else f i a j apart)) (subst (P (f j)) (sym (put_else g i b j apart)) (others j apart)))
+
 -- a field of the values
 pub put_field : {A B : Type 0} (g : A → B) (f : ℕ → A) (i : ℕ) (a : A) → put (after g f) i (g a) ≡ after g (put f i a)
 put_field {A} {B} g f i a =

@@ -273,7 +273,7 @@ module _ (word : ℕ → ℕ) (k : KeeperView) (harts : ℕ → HartView) (p : P
         granted = g.granted;
         rising = g.rising;
         kept = p.generations.kept m few;
-        fetched = p.fetches.fetched m;
+        fetched = (p.fetches.each m).fetched;
       })
 
   closed : (n : ℕ) → Rests n → n % 8 ≢ 3
