@@ -33,7 +33,7 @@ fn is_offered(object: &Object, symbol: &Symbol) -> bool
 }
 
 /// The same of the symbol at an index, which the object may export.
-fn is_offered_at(object: &Object, index: u32) -> bool
+pub(crate) fn is_offered_at(object: &Object, index: u32) -> bool
     ensures { result ≡ exports object.now (is_offered object.now) index }
 {
     match object.symbols.as_slice().get(index as usize) {
@@ -52,7 +52,7 @@ fn offered(alloc: Global, object: &Object) -> Result<Vec<u32>, AllocError>
 }
 
 /// The name of the symbol at an index.
-fn name_at(object: &Object, index: u32) -> &[u8]
+pub(crate) fn name_at(object: &Object, index: u32) -> &[u8]
     ensures { result.now ≡ name_at object.now index }
 {
     match object.symbols.as_slice().get(index as usize) {
