@@ -2,6 +2,7 @@ pub mod Apart
 pub mod ByName
 pub mod Covers
 pub mod Ended
+pub mod Holding
 pub mod KeptOrders
 pub mod Orders
 pub mod Parts

@@ -1,7 +1,7 @@
 -- Lists don't tell of the states of objects.
 use Rattle.std.proofs.Common.{◌≡◌, ℕ, zero, suc, Bool, true, false, cond, List, [], ◌∷◌, ◌++◌, length, map, refl, subst, sym, ap, ◌∙◌}
 use Rattle.std.specs.Prelude.{◌==◌, ◌||◌, not, filter, flat_map, option_map, slice_get, Option, Some, None}
-use Rattle.std.proofs.lemmas.Option.{slice_get-map}
+use Rattle.std.proofs.lemmas.Option.{IfSome_then, slice_get-map}
 use Rattle.ld_base.specs.declared.linking.Loaded.{Loaded}
 use Rattle.ld_base.specs.declared.linking.State.{State}
 use Rattle.ld_base.specs.declared.object.Object.{Object}
@@ -11,18 +11,22 @@ use Rattle.scope_rule.specs.Loading.{found_of, is_dying, is_dying_at, object_of,
 use Rattle.scope_rule.specs.Scope.{opened_with, scope, whole_scope}
 use Rattle.scope_rule.specs.Seen.{Seen}
 use Rattle.scope_rule.specs.declared.namespace.OpenRec.{OpenRec}
+use Rattle.scope_lists.specs.Holders.{object_of_entry}
 use Rattle.scope_lists.specs.Kept.{ArePlaced, AreScopes, IsScope, entry_in, kept_at, kept_in}
 use Rattle.scope_lists.specs.Links.{found_once}
 use Rattle.scope_lists.specs.Lists.{AreListsOf, ChangesStateAlone}
 use Rattle.scope_lists.specs.NameOrder.{IsNameOrder}
 use Rattle.scope_lists.specs.NameOrders.{AreNameOrders}
 use Rattle.scope_lists.specs.Places.{place_in, serials}
+use Rattle.scope_lists.specs.Searched.{at_place}
 use Rattle.scope_lists.specs.declared.kept.KeptScope.{KeptScope}
 use Rattle.scope_lists.specs.declared.kept.KeptScopes.{KeptScopes}
 use Rattle.scope_lists.specs.declared.lists.SearchLists.{SearchLists}
 use Rattle.scope_lists.specs.declared.name_orders.NameOrders.{NameOrders}
+use Rattle.scope_lists.specs.declared.searched.Searched.{Searched}
 use Rattle.scope_lists.specs.VersionPlaces.Places.{places_of}
 use Rattle.scope_lists.specs.declared.version_places.names.VersionPlace.{VersionPlace}
+use Rattle.scope_lists.proofs.Holding.{holders_stay}
 
 -- ---- functions that are the same at each point
 
@@ -138,9 +142,25 @@ module _ (change : Loaded → Loaded) (alone : (o : Loaded) → ChangesStateAlon
     same_names (o ∷ rest) =
         ap (λ (x : Loaded). names_in x ∷ map names_in (map change rest)) (alone o).rest ∙ ap (λ (ls : List (List (Option VersionPlace))). names_in o ∷ ls) (same_names rest)
 
+    abbrev object_on : Option Loaded → Option Object
+    object_on o = option_map (λ (x : Loaded). x.object) o
+
+    object_mapped : (o : Option Loaded) → object_on (option_map change o) ≡ object_on o
+    object_mapped None = refl
+    object_mapped (Some o) = ap (λ (x : Loaded). Some x.object) (alone o).rest
+
+    same_object : (entry : Option Searched) → object_of_entry Then entry ≡ object_of_entry s entry
+    same_object None = refl
+    same_object (Some entry) = by entry.place
+      where
+        by : (place : Option ℕ) → object_on (at_place Then place) ≡ object_on (at_place s place)
+        by None = refl
+        by (Some k) = ap object_on (slice_get-map change s.objects k) ∙ object_mapped (slice_get s.objects k)
+
     same_kept : (kept : KeptScopes) → AreScopes s kept → AreScopes Then kept
     same_kept kept are = record {
       global = are.global ∙ ap (λ (l : List ℕ). map (entry_in l) s.global) (sym (same_serials s.objects));
+      holders = IfSome_then kept.holders are.holders (λ held is. holders_stay s Then kept.global.items held (λ place. same_object (slice_get kept.global.items place)) is);
       each = λ place o found at has. by place o found at has (slice_get s.objects place) refl;
     }
       where

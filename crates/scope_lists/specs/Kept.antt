@@ -1,5 +1,5 @@
 -- Scopes that are kept: for the code of this crate alone.
-use Rattle.std.specs.Prelude.{◌≡◌, ◌⊎◌, ℕ, false, nat_eq, if◌then◌else◌, List, [], ◌∷◌, ◌++◌, Option, Some, map, slice_get, IsSome}
+use Rattle.std.specs.Prelude.{◌≡◌, ◌⊎◌, ℕ, false, nat_eq, if◌then◌else◌, List, [], ◌∷◌, ◌++◌, Option, Some, map, slice_get, IfSome, IsSome}
 use Rattle.std.specs.HashMap.{get}
 use Rattle.std.specs.List.{AllByRecursion}
 use Rattle.ld_base.specs.declared.linking.Loaded.{Loaded}
@@ -8,6 +8,7 @@ use Rattle.scope_rule.specs.Scope.{scope}
 use Rattle.scope_rule.specs.Seen.{Seen}
 use Rattle.scope_lists.specs.Brought.{brought_in}
 use Rattle.scope_lists.specs.Covering.{IsCovered}
+use Rattle.scope_lists.specs.Holders.{AreHolders}
 use Rattle.scope_lists.specs.Places.{place_in, place_of, serials_of}
 use Rattle.scope_lists.specs.Searched.{FindsAlike, serials_in}
 use Rattle.scope_lists.specs.declared.kept.KeptScope.{KeptScope}
@@ -54,9 +55,10 @@ pub record IsScope (s : Seen) (global : List Searched) (o : Loaded) (found : Kep
   pub alike : FindsAlike (serials_in (kept_in global found)) (scope s o)
   pub placed : ArePlaced (serials_of s) (kept_in global found)
 
--- the global list is kept, and of objects their scopes
+-- the global list is kept, which of its objects have definitions under a hash if that was made, and of objects their scopes
 pub record AreScopes (s : Seen) (kept : KeptScopes) : Type 0 where
   pub global : kept.global.items ≡ map (entry_in (serials_of s)) s.global
+  pub holders : IfSome kept.holders (AreHolders s kept.global.items)
   pub each : (place : ℕ) (o : Loaded) (found : KeptScope) →
       slice_get s.objects place ≡ Some o → kept_at kept place ≡ Some found → IsScope s kept.global.items o found
 

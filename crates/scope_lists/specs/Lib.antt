@@ -1,6 +1,7 @@
 pub mod Asking
 pub mod Brought
 pub mod Covering
+pub mod Holders
 pub mod Kept
 pub mod Links
 pub mod Lists

@@ -1,15 +1,16 @@
 -- Search lists: where the references of objects are searched, and where the names of their versions stand.
-use Rattle.std.specs.Prelude.{◌≡◌, ℕ, ◌≤◌, map, slice_get, IsSome, Option, Some, None}
+use Rattle.std.specs.Prelude.{◌≡◌, ℕ, ◌≤◌, map, slice_get, IfSome, IsSome, Some}
 use Rattle.std.specs.List.{AllByRecursion}
 use Rattle.ld_base.specs.declared.linking.Loaded.{Loaded}
 use Rattle.scope_rule.specs.Loading.{is_dying, object_of}
 use Rattle.scope_rule.specs.Scope.{scope}
 use Rattle.scope_rule.specs.Seen.{Seen}
+use Rattle.scope_lists.specs.Holders.{AreHolders}
 use Rattle.scope_lists.specs.Kept.{AreScopes, kept_at}
 use Rattle.scope_lists.specs.Links.{AreLinks}
 use Rattle.scope_lists.specs.NameOrders.{AreNameOrders}
 use Rattle.scope_lists.specs.Places.{place_of}
-use Rattle.scope_lists.specs.Searched.{FindsAlike, in_parts, serials_in}
+use Rattle.scope_lists.specs.Searched.{FindsAlike, at_place, in_parts, serials_in}
 use Rattle.scope_lists.specs.declared.lists.SearchLists.{SearchLists}
 use Rattle.scope_lists.specs.declared.searched.ScopeParts.{ScopeParts}
 use Rattle.scope_lists.specs.declared.searched.Searched.{Searched}
@@ -35,19 +36,16 @@ IsListed lists owner = (place : ℕ) → place_of lists.links.places owner ≡ S
 abbrev pub AreListed : Seen → ℕ → SearchLists → Type 0
 AreListed s first lists = (place : ℕ) (o : Loaded) → first ≤ place → slice_get s.objects place ≡ Some o → IsListedAt lists place
 
--- the object at a place in load order, if any
-abbrev pub at_place : Seen → Option ℕ → Option Loaded
-at_place s (Some place) = slice_get s.objects place
-at_place s None = None
-
 -- an object that is searched stands where the one of its serial does
 abbrev pub IsSearched : Seen → Searched → Type 0
 IsSearched s x = at_place s x.place ≡ object_of s x.serial
 
--- a search of these parts finds what one of an object's Scope does, and their objects stand where those of their serials do
+-- a search of these parts finds what one of an object's Scope does, their objects stand where those of their serials do, and what is known of
+-- the definitions of their global list is so
 pub record ArePartsOf (s : Seen) (o : Loaded) (parts : ScopeParts) : Type 0 where
   pub alike : FindsAlike (serials_in (in_parts parts)) (scope s o)
   pub places : AllByRecursion (IsSearched s) (in_parts parts)
+  pub holders : IfSome parts.holders (λ h. AreHolders s parts.global.now h.now)
 
 -- an object but for its state; it is closing exactly where it was
 pub record ChangesStateAlone (before after : Loaded) : Type 0 where

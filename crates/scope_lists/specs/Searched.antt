@@ -1,12 +1,19 @@
 -- What is searched for the references of an object.
-use Rattle.std.specs.Prelude.{◌≡◌, ℕ, List, ◌++◌, Option, map}
+use Rattle.std.specs.Prelude.{◌≡◌, ℕ, List, ◌++◌, Option, Some, None, map, slice_get}
+use Rattle.ld_base.specs.declared.linking.Loaded.{Loaded}
 use Rattle.scope_rule.specs.Choose.{first_with}
+use Rattle.scope_rule.specs.Seen.{Seen}
 use Rattle.scope_lists.specs.declared.searched.ScopeParts.{ScopeParts}
 use Rattle.scope_lists.specs.declared.searched.Searched.{Searched}
 
 -- the serials of objects that are searched
 abbrev pub serials_in : List Searched → List ℕ
 serials_in xs = map (λ x. x.serial) xs
+
+-- the object at a place in load order, if any
+abbrev pub at_place : Seen → Option ℕ → Option Loaded
+at_place s (Some place) = slice_get s.objects place
+at_place s None = None
 
 -- the objects of parts, one after another
 abbrev pub in_parts : ScopeParts → List Searched

@@ -1,12 +1,17 @@
 //! Scopes that are kept.
 
-ghost use Rattle.std.specs.Prelude.{◌≡◌, [], if◌then◌else◌};
+ghost use Rattle.std.specs.Prelude.{◌≡◌, [], if◌then◌else◌, None, IfSome};
+ghost use Rattle.std.specs.Option.{option_copied};
+ghost use Rattle.scope_rule.specs.Seen.{Seen};
+ghost use Rattle.scope_lists.specs.Holders.{AreHolders};
 ghost use Rattle.scope_lists.specs.Kept.{kept_in};
 ghost use Rattle.scope_lists.specs.Searched.{in_parts};
 
+use crate::holders::{Holders, is_worth_it};
 use crate::scoping::Scopes;
 use crate::searched::{ScopeParts, Searched};
 use ld_base::Loaded;
+use scope_rule::View;
 use std::alloc::{AllocError, Global};
 use std::collections::HashMap;
 
@@ -27,6 +32,8 @@ pub(crate) struct KeptScope {
 pub(crate) struct KeptScopes {
     /// The global list of the namespace.
     global: Vec<Searched>,
+    /// Which objects of that list have definitions under a hash, if that was worth it.
+    holders: Option<Holders>,
     by_place: HashMap<usize, KeptScope>,
 }
 
@@ -37,22 +44,37 @@ fn global_of(global: &[Searched], is_searched: bool) -> &[Searched]
     if is_searched { global } else { &[] }
 }
 
+/// What is known of the definitions of a global list, if this is searched.
+fn holders_of(holders: &Option<Holders>, is_searched: bool) -> Option<&Holders>
+    ensures { option_copied result ≡ (if is_searched then holders.now else None) }
+{
+    if is_searched { holders.as_ref() } else { None }
+}
+
 /// The parts of a scope beside a global list.
-fn parts_of<'a>(global: &'a [Searched], scope: &'a KeptScope) -> ScopeParts<'a>
-    ensures { in_parts result ≡ kept_in global.now scope.now }
+fn parts_of<'a>(
+    global: &'a [Searched],
+    holders: &'a Option<Holders>,
+    scope: &'a KeptScope,
+) -> ScopeParts<'a>
+    ensures parts { in_parts result ≡ kept_in global.now scope.now }
+    ensures holders { (s : Seen) → IfSome holders.now (AreHolders s global.now) → IfSome result.holders (λ h. AreHolders s result.global.now h.now) }
 {
     ScopeParts {
         before: scope.before.as_slice(),
         global: global_of(global, scope.is_global),
+        holders: holders_of(holders, scope.is_global),
         after: scope.after.as_slice(),
     }
 }
 
 impl KeptScopes {
-    ghost use Rattle.std.specs.Prelude.{◌≡◌, ◌<◌, ◌≤◌, ℕ, true, None, Some, slice_get, IsSome, OnOk};
+    ghost use Rattle.std.specs.Prelude.{◌≡◌, ◌<◌, ◌≤◌, ℕ, true, None, Some, slice_get, IfSome, IsSome, OnOk};
     ghost use Rattle.std.specs.Option.{is_some};
     ghost use Rattle.ld_base.specs.declared.linking.Loaded.{Loaded as LoadedObject};
     ghost use Rattle.scope_rule.specs.Breadth.{has};
+    ghost use Rattle.scope_rule.specs.Seen.{Seen, seen};
+    ghost use Rattle.scope_lists.specs.Holders.{AreHolders};
     ghost use Rattle.scope_lists.specs.Kept.{AreScopes, KeepsAll, kept_at, kept_in};
     ghost use Rattle.scope_lists.specs.Searched.{in_parts};
     ghost use Rattle.scope_lists.specs.declared.kept.KeptScope.{KeptScope as Kept};
@@ -60,10 +82,12 @@ impl KeptScopes {
     /// None yet, of a namespace with this global list.
     pub(crate) fn new(alloc: Global, global: Vec<Searched>) -> Self
         ensures global { result.global.items ≡ global.items }
+        ensures holders { result.holders ≡ None }
         ensures none { (place : ℕ) → kept_at result place ≡ None }
     {
         KeptScopes {
             global,
+            holders: None,
             by_place: HashMap::new(alloc),
         }
     }
@@ -77,12 +101,30 @@ impl KeptScopes {
 
     /// That of the object at a place. Where it isn't there, nothing is searched.
     pub(crate) fn get(&self, place: usize) -> ScopeParts
-        ensures { (found : Kept) → kept_at self.now place ≡ Some found → in_parts result ≡ kept_in self.now.global.items found }
+        ensures parts { (found : Kept) → kept_at self.now place ≡ Some found → in_parts result ≡ kept_in self.now.global.items found }
+        ensures holders { (s : Seen) → IfSome self.now.holders (AreHolders s self.now.global.items) → IfSome result.holders (λ h. AreHolders s result.global.now h.now) }
     {
         match self.by_place.get(&place) {
-            Some(scope) => parts_of(self.global.as_slice(), scope),
+            Some(scope) => parts_of(self.global.as_slice(), &self.holders, scope),
             None => ScopeParts::none(),
         }
+    }
+
+    /// Makes known which objects of the global list have definitions under a hash, if that is worth it for so many
+    /// searches.
+    pub(crate) fn add_holders(
+        &mut self,
+        alloc: Global,
+        view: &View,
+        searches: usize,
+    ) -> Result<(), AllocError>
+        requires { AreScopes (seen view.now) self.old }
+        ensures { AreScopes (seen view.now) self.new }
+    {
+        if is_worth_it(view, self.global.as_slice(), searches) {
+            self.holders = Holders::of(alloc, view, self.global.as_slice())?;
+        }
+        Ok(())
     }
 
     /// Makes that of the object at a place, if there is one.

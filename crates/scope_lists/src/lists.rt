@@ -8,7 +8,7 @@ ghost use Rattle.scope_lists.specs.VersionPlaces.Places.{places_of};
 use crate::kept::KeptScopes;
 use crate::links::Links;
 use crate::name_order::NameOrder;
-use crate::name_orders::NameOrders;
+use crate::name_orders::{NameOrders, relocations_from};
 use crate::owners::Owners;
 use crate::scoping::Scopes;
 use crate::searched::{ScopeParts, entries};
@@ -67,8 +67,9 @@ impl SearchLists {
     ghost use Rattle.ld_base.specs.declared.linking.Loaded.{Loaded as loaded};
     ghost use Rattle.scope_rule.specs.Loading.{object_of};
     ghost use Rattle.scope_rule.specs.Seen.{Seen, seen, seen_in};
-    ghost use Rattle.scope_lists.specs.Lists.{AreListed, AreListsOf, ArePartsOf, IsListed, IsListedAt, at_place};
+    ghost use Rattle.scope_lists.specs.Lists.{AreListed, AreListsOf, ArePartsOf, IsListed, IsListedAt};
     ghost use Rattle.scope_lists.specs.NameOrder.{IsNameOrder};
+    ghost use Rattle.scope_lists.specs.Searched.{at_place};
     ghost use Rattle.scope_lists.specs.VersionPlaces.Places.{places_of};
 
     /// Those of what is seen of a namespace, without any scope.
@@ -138,6 +139,8 @@ impl SearchLists {
         ensures scopes { OnOk result (AreListed (seen view.now) first self.new) }
     {
         self.orders.add_for(alloc, view, first)?;
+        self.scopes
+            .add_holders(alloc, view, relocations_from(view, first))?;
         let end = view.objects.len() + view.added.len();
         let owners = Owners::between(alloc, view, first, end)?;
         let scopes = Scopes::of(alloc, view, &self.links, owners)?;

@@ -1,7 +1,7 @@
 //! Finding the definitions of a name, or of a name and a version, by their order, whatever the hash tables of
 //! their object are.
 
-mod keys;
+pub(crate) mod keys;
 
 ghost use Rattle.std.specs.Prelude.{◌≡◌, ◌==◌, filter, IfOk};
 ghost use Rattle.scope_lists.specs.NameOrder.{exported, exports, is_global_at, is_offered};
@@ -34,7 +34,7 @@ fn is_offered(object: &Object, symbol: &Symbol) -> bool
 }
 
 /// The same of the symbol at an index, which the object may export.
-fn is_offered_at(object: &Object, index: u32) -> bool
+pub(crate) fn is_offered_at(object: &Object, index: u32) -> bool
     ensures { result ≡ exports object.now (is_offered object.now) index }
 {
     match object.symbols.as_slice().get(index as usize) {

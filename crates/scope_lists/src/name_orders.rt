@@ -9,7 +9,7 @@ use std::alloc::{AllocError, Global};
 use std::collections::HashMap;
 
 /// For so many searches at least an order is made: fewer take no time in any object that is read.
-const MANY: usize = 64;
+pub(crate) const MANY: usize = 64;
 
 /// For one search at least to so many symbols: making an order takes as long as one that passes all of a few
 /// hundred.
@@ -28,7 +28,7 @@ fn relocations(object: &Loaded) -> usize {
 }
 
 /// How many relocations the objects from a place on have.
-fn relocations_from(view: &View, first: usize) -> usize {
+pub(crate) fn relocations_from(view: &View, first: usize) -> usize {
     let end = view.objects.len() + view.added.len();
     let mut sum = 0usize;
     for place in first..end {

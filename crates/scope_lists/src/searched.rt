@@ -3,6 +3,7 @@
 ghost use Rattle.std.specs.Prelude.{◌≡◌, map, IfOk};
 ghost use Rattle.scope_lists.specs.Kept.{entry_of};
 
+use crate::holders::Holders;
 use crate::places::Places;
 use ld_base::Serial;
 use std::alloc::{AllocError, Global};
@@ -21,6 +22,8 @@ pub struct ScopeParts<'a> {
     pub before: &'a [Searched],
     /// The global list; empty where the object doesn't see all of it.
     pub global: &'a [Searched],
+    /// Which objects of that list have definitions under a hash, where this was made.
+    pub holders: Option<&'a Holders>,
     /// What comes behind it.
     pub after: &'a [Searched],
 }
@@ -50,11 +53,16 @@ pub(crate) fn entries(
 }
 
 impl<'a> ScopeParts<'a> {
+    ghost use Rattle.std.specs.Prelude.{◌≡◌, None};
+
     /// Those in which nothing is searched.
-    pub(crate) fn none() -> Self {
+    pub(crate) fn none() -> Self
+        ensures { result.holders ≡ None }
+    {
         ScopeParts {
             before: &[],
             global: &[],
+            holders: None,
             after: &[],
         }
     }

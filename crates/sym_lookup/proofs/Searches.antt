@@ -30,10 +30,10 @@ use Rattle.scope_lists.specs.declared.searched.Searched.{Searched}
 use Rattle.scope_lists.specs.declared.version_places.names.VersionPlace.{VersionPlace}
 
 module _ (pick : ℕ → Option ℕ) (serial : ℕ) (rest : List ℕ) where
-  first_none : pick serial ≡ None → first_with pick (serial ∷ rest) ≡ first_with pick rest
+  pub first_none : pick serial ≡ None → first_with pick (serial ∷ rest) ≡ first_with pick rest
   first_none none = rw (none, first_with) refl
 
-  first_some : (index : ℕ) → pick serial ≡ Some index → first_with pick (serial ∷ rest) ≡ Some (serial, index)
+  pub first_some : (index : ℕ) → pick serial ≡ Some index → first_with pick (serial ∷ rest) ≡ Some (serial, index)
   first_some index some = rw (some, first_with) refl
 
 abbrev others : ℕ → List ℕ → List ℕ

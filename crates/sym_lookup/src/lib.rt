@@ -4,7 +4,8 @@
 //! gives. [`References`] gives that for all relocations of one object: each symbol is looked up once.
 //! Where the references of an object are searched is known from search lists (`scope_lists`), which know
 //! where the names of each object's versions stand, too, and each object is searched by its hash table
-//! (`sym_find`), or in the order of its names where the lists have that. The hashes of a reference's name are
+//! (`sym_find`), or in the order of its names where the lists have that. Where the lists know which objects of the
+//! global list have definitions under a hash, the others aren't asked. The hashes of a reference's name are
 //! computed once. None of them takes memory, but for making [`References`].
 //!
 //! `sym_find` follows the one chain of a hash table to which a name's hash leads ([`Find`]).

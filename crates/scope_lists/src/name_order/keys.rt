@@ -39,7 +39,7 @@ pub(super) enum Keys<'a> {
 }
 
 /// The name of the symbol at an index.
-fn name_at(object: &Object, index: u32) -> &[u8]
+pub(crate) fn name_at(object: &Object, index: u32) -> &[u8]
     ensures { result.now ≡ name_at object.now index }
 {
     match object.symbols.as_slice().get(index as usize) {

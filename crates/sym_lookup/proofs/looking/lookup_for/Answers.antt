@@ -18,3 +18,6 @@ sought_of-sought-requires c = c.owner_names-names.ensures (seen c.args.view.now)
 
 pub first_in_parts-found-requires-clause-searched : goal.first_in_parts-found-requires-clause-searched
 first_in_parts-found-requires-clause-searched c = c.requires.scope.places
+
+pub first_in_parts-found-requires-clause-holders : goal.first_in_parts-found-requires-clause-holders
+first_in_parts-found-requires-clause-holders c = c.requires.scope.holders

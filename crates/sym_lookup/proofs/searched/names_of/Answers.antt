@@ -1,7 +1,7 @@
 use Rattle.std.proofs.Common.{◌≡◌, ℕ, Option, subst, sym}
 use Rattle.std.specs.List.{slice_get}
 use Rattle.std.specs.Prelude.{IfSome}
-use Rattle.scope_lists.specs.Lists.{at_place}
+use Rattle.scope_lists.specs.Searched.{at_place}
 use Rattle.scope_lists.specs.VersionPlaces.Places.{places_of}
 use Rattle.sym_lookup.proofs.Searches.{names_there}
 use Rattle.sym_lookup.proofs.searched.names_of.Goals as goal
