@@ -39,9 +39,6 @@ module _ (o : Object) (n hash : ℕ) where
       ]
 
 module _ (o : Object) (n place : ℕ) (old new : List Held) where
-  pub more_none : HoldsMore 0 o place old old
-  more_none h = (λ here. inl here, λ either. elim either [ inl here ↦ here | inr one ↦ absurd (omega (arith, one.1.within)) ])
-
   pub more_skipped : HoldsMore n o place old new → exports o (is_offered o) n ≡ false → HoldsMore (n + 1) o place old new
   more_skipped more other h = (
     λ here. elim ((more h).0 here) [ inl was ↦ inl was | inr one ↦ inr (one.0, defines_later o n h.hash one.1) ],
@@ -81,9 +78,6 @@ object_there s list place entry found lt is here =
     ap (object_of_entry s) (slice_get_read list (length list) place entry refl lt is) ∙ ap (option_map (λ (o : Loaded). o.object)) (sym here)
 
 module _ (s : Seen) (list : List Searched) (p : ℕ) (old new : List Held) where
-  pub below_start : old ≡ [] → AreHoldersBelow 0 s list old
-  below_start none h = (λ here. absurd (let in_none : Contains [] h = subst (λ (l : List Held). Contains l h) none here in omega (arith, in_none.1)), λ one. absurd (omega (arith, one.0)))
-
   -- the object at a place more is there, or isn't
   pub below_more : (o : Object) → object_in s list p ≡ Some o → AreHoldersBelow p s list old → HoldsMore (length o.symbols) o p old new → AreHoldersBelow (p + 1) s list new
   below_more o stands are more h = (
@@ -184,9 +178,6 @@ module _ (s : Seen) (list : List Searched) (held : List Held) (hash from : ℕ) 
   -- what holds is kept
   kept : (place : ℕ) → HoldsAt s list hash place → Contains held (held_at hash place)
   kept place holds = (are.each (held_at hash place)).1 (held_within s list hash place holds, holds)
-
-  pub next_past : 2 ^ 32 ≤ from → IsNext s list hash from None
-  next_past past place le holds = (let lt = held_within s list hash place holds in omega (arith, lt, are.few))
 
   pub next_none : IsFirstFrom (rank (held_at hash from)) held None → IsNext s list hash from None
   next_none none place le holds = (let lt = none (held_at hash place) (kept place holds) in omega (arith, lt))

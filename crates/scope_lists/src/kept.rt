@@ -1,7 +1,6 @@
 //! Scopes that are kept.
 
-ghost use Rattle.std.specs.Prelude.{◌≡◌, [], if◌then◌else◌, None, IfSome};
-ghost use Rattle.std.specs.Option.{option_copied};
+ghost use Rattle.std.specs.Prelude.{◌≡◌, [], if◌then◌else◌, IfSome};
 ghost use Rattle.scope_rule.specs.Seen.{Seen};
 ghost use Rattle.scope_lists.specs.Holders.{AreHolders};
 ghost use Rattle.scope_lists.specs.Kept.{kept_in};
@@ -44,26 +43,20 @@ fn global_of(global: &[Searched], is_searched: bool) -> &[Searched]
     if is_searched { global } else { &[] }
 }
 
-/// What is known of the definitions of a global list, if this is searched.
-fn holders_of(holders: &Option<Holders>, is_searched: bool) -> Option<&Holders>
-    ensures { option_copied result ≡ (if is_searched then holders.now else None) }
-{
-    if is_searched { holders.as_ref() } else { None }
-}
-
-/// The parts of a scope beside a global list.
+/// The parts of a scope beside a global list, of which this is known if it is searched.
 fn parts_of<'a>(
     global: &'a [Searched],
-    holders: &'a Option<Holders>,
+    holders: Option<&'a Holders>,
     scope: &'a KeptScope,
 ) -> ScopeParts<'a>
     ensures parts { in_parts result ≡ kept_in global.now scope.now }
-    ensures holders { (s : Seen) → IfSome holders.now (AreHolders s global.now) → IfSome result.holders (λ h. AreHolders s result.global.now h.now) }
+    ensures holders { (s : Seen) → IfSome holders.entry (λ h. AreHolders s global.now h.now)
+        → IfSome result.holders (λ h. AreHolders s result.global.now h.now) }
 {
     ScopeParts {
         before: scope.before.as_slice(),
         global: global_of(global, scope.is_global),
-        holders: holders_of(holders, scope.is_global),
+        holders: holders.filter(|_| scope.is_global),
         after: scope.after.as_slice(),
     }
 }
@@ -102,10 +95,11 @@ impl KeptScopes {
     /// That of the object at a place. Where it isn't there, nothing is searched.
     pub(crate) fn get(&self, place: usize) -> ScopeParts
         ensures parts { (found : Kept) → kept_at self.now place ≡ Some found → in_parts result ≡ kept_in self.now.global.items found }
-        ensures holders { (s : Seen) → IfSome self.now.holders (AreHolders s self.now.global.items) → IfSome result.holders (λ h. AreHolders s result.global.now h.now) }
+        ensures holders { (s : Seen) → IfSome self.now.holders (AreHolders s self.now.global.items)
+            → IfSome result.holders (λ h. AreHolders s result.global.now h.now) }
     {
         match self.by_place.get(&place) {
-            Some(scope) => parts_of(self.global.as_slice(), &self.holders, scope),
+            Some(scope) => parts_of(self.global.as_slice(), self.holders.as_ref(), scope),
             None => ScopeParts::none(),
         }
     }
