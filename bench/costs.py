@@ -155,6 +155,16 @@ def shared(objects, slots, names):
     return files
 
 
+def behind(objects, slots):
+    """A program with so many slots to a library that stands behind so many objects, each of which has a slot, too."""
+    texts = plain(slots)
+    files = {"prog": asking(b"l0001.so", texts), "lib/liba.so": one_bucket(texts)["lib/liba.so"]}
+    for k in range(1, objects):
+        needed = b"l%04d.so" % (k + 1) if k + 1 < objects else b"liba.so"
+        files[f"lib/l{k:04}.so"] = asking(needed, texts[k % slots :][:1])
+    return files
+
+
 def versioned(symbols, slots):
     """A program with a slot for each of these versions of one name, all of whose symbols its library has, in one bucket: those
     of the versions come last."""
@@ -191,11 +201,13 @@ def buckets():
     row(3, "bind of 40000 slots to as many names of one System V hash", done, "5 s")
     done = scenario({**one_bucket(texts), "prog": asking(b"liba.so", texts[-10100:])}, "bind --lib lib prog")
     row(3, "bind of 10100 slots to the last of 40000 such names", done, "5 s")
-    for slots in 1000, 10000:
+    for slots in 1000, 10000, 30000:
         done = scenario(versioned(100000, slots), "bind --lib lib prog")
         row(3, f"bind of {slots} slots, each of a version of its own, to a name that 100000 symbols have", done, "5 s")
     done = scenario(shared(1000, 60, 60000), "bind --lib lib prog")
     row(3, "bind of 1000 objects with 60 slots each to 60000 names in one bucket", done, "5 s")
+    done = scenario(behind(1000, 39000), "bind --lib lib prog")
+    row(3, "bind of 39000 slots to a library that stands behind 1000 others", done, "5 s")
 
 
 def library_named(number, needed):
