@@ -1,7 +1,7 @@
 #!/bin/sh
 # Times `ldso bind` of a program over 64 libraries with 4,160 slots against `readelf -Ws` of the same
 # files, and against glibc's start of the same graph in x86-64 with every slot bound (LD_BIND_NOW=1), as
-# processor time over 20 runs of each. Library i needs 2i + 1 and 2i + 2, exports f_i_0 to f_i_63, which
+# processor time over 200 runs of each. Library i needs 2i + 1 and 2i + 2, exports f_i_0 to f_i_63, which
 # call g, and g; the program calls them all, and the one for x86-64 ends at its first instructions. Run
 # by hand: bench/bind.sh [LIBRARIES]. It needs clang, lld and readelf for RISC-V (Debian: clang, lld,
 # binutils-riscv64-linux-gnu), gcc for x86-64, and GNU time. PROGRAM may name another ldso.
@@ -93,10 +93,10 @@ done
 } > host.s
 gcc -shared -nostdlib -Wl,--no-as-needed,-z,lazy,-e,_start -Wl,-rpath-link,host host.s host/lib0.so -o host/prog
 
-# The processor time of 20 runs of a command, in milliseconds of one.
+# The processor time of 200 runs of a command, in milliseconds of one.
 milliseconds() {
-    /usr/bin/time -f '%U %S' -o time.runs sh -c 'i=0; while [ $i -lt 20 ]; do "$@" > /dev/null; i=$((i + 1)); done' runs "$@"
-    awk '{ printf "%.1f", ($1 + $2) * 50 }' time.runs
+    /usr/bin/time -f '%U %S' -o time.runs sh -c 'i=0; while [ $i -lt 200 ]; do "$@" > /dev/null; i=$((i + 1)); done' runs "$@"
+    awk '{ printf "%.2f", ($1 + $2) * 5 }' time.runs
 }
 own=$(milliseconds "$program" bind --lib lib prog)
 glibc=$(LD_LIBRARY_PATH=$work/host LD_BIND_NOW=1 milliseconds host/prog)
