@@ -1,5 +1,5 @@
 -- A list that is extended by what it lacks; breadth-first order, a level at a time; and the part of an order from a number on.
-use Rattle.std.proofs.Common.{◌≡◌, ℕ, zero, suc, ◌+◌, ◌<◌, ◌≤◌, ◌==◌, nat_le, Bool, true, false, not, ◌||◌, cond, ◌⊎◌, inl, inr, Option, Some, None}
+use Rattle.std.proofs.Common.{◌≡◌, ℕ, zero, suc, ◌+◌, ◌-◌, ◌<◌, ◌≤◌, ◌==◌, nat_le, Bool, true, false, not, ◌||◌, cond, ◌⊎◌, inl, inr, Option, Some, None}
 use Rattle.std.proofs.Common.{List, [], ◌∷◌, ◌++◌, length, take, drop, get_or, refl, sym, ap, ◌∙◌, append_assoc, append-nil, add-one, drop-cons, arith, rules}
 use Rattle.std.proofs.ByRecursion.{All-weaker}
 use Rattle.std.proofs.Math.Seq.{take-length, take-append_seam}
@@ -8,7 +8,7 @@ use Rattle.std.proofs.lemmas.Grind.{flat_map-append, common_steps}
 use Rattle.std.proofs.lemmas.List.{length-append, take-append-le, take-append-drop, take_all}
 use Rattle.std.proofs.lemmas.List.Elements.{filter-append}
 use Rattle.std.proofs.lemmas.List.Folds.{list_any-append}
-use Rattle.std.specs.List.{filter, flat_map, AllByRecursion}
+use Rattle.std.specs.List.{filter, flat_map, list_any, AllByRecursion}
 use Rattle.std.specs.Option.{option_or}
 use Rattle.scope_rule.specs.Breadth.{has, without, first_kept, extend, level, levels, breadth, order_to}
 use Rattle.scope_rule.specs.Choose.{first_with}
@@ -95,6 +95,23 @@ covered_by_self a (x ∷ xs) =
     (elim (lacks_not a x) as (λ v. lacks_not a x ≡ v → Covered (cond v (extend a xs) (extend (a ++ x ∷ []) xs)) (x ∷ xs))
     [ true ↦ λ h. all a h | false ↦ λ h. all (a ++ x ∷ []) (has_pushed a x) ]) refl
 
+-- what an extended list has, but for 0
+pub has_extended : (a xs : List ℕ) (q : ℕ) → (q == 0 || has (extend a xs) q) ≡ (q == 0 || has (a ++ xs) q)
+has_extended a [] q = rw append-nil refl
+has_extended a (x ∷ xs) q = rw list_any-append (grind (arith, common_steps, has_extended a xs q, has_extended (a ++ x ∷ []) xs q, list_any-append))
+
+-- what a list has that 0 is put at the end of
+pub has_also : (xs : List ℕ) (q : ℕ) → has (cond (list_any (λ y. 0 == y) xs) xs (xs ++ 0 ∷ [])) q ≡ (q == 0 || has xs q)
+has_also xs q =
+    elim (list_any (λ y. 0 == y) xs) as (λ there. list_any (λ y. 0 == y) xs ≡ there → has (cond there xs (xs ++ 0 ∷ [])) q ≡ (q == 0 || has xs q)) [
+      | true ↦ λ e. zero_there xs q e
+      | false ↦ λ e. rw list_any-append (grind (arith, common_steps))
+    ] refl
+  where
+    zero_there : (ys : List ℕ) (x : ℕ) → list_any (λ y. 0 == y) ys ≡ true → has ys x ≡ (x == 0 || has ys x)
+    zero_there [] x e = absurd cc
+    zero_there (y ∷ ys) x e = grind (arith, common_steps, zero_there ys x)
+
 -- an element that leads to nothing new may be left out
 left_out : (f : ℕ → List ℕ) (a : List ℕ) (x : ℕ) (ys : List ℕ) → Covered a (f x) → extend a (flat_map f (without x ys)) ≡ extend a (flat_map f ys)
 left_out f a x [] h = refl
@@ -144,15 +161,38 @@ abbrev pub alone : ℕ → List ℕ
 alone root = extend [] (root ∷ [])
 
 -- what the entries that are left lead to is all that the order leads to
-pub level_step : (f : ℕ → List ℕ) (root start : ℕ) (order : List ℕ) → order ≡ extend (alone root) (flat_map f (take start order))
-    → extend order (flat_map f (drop start order)) ≡ extend (alone root) (flat_map f order)
-level_step f root start order grown =
+pub level_step : (f : ℕ → List ℕ) (first : List ℕ) (start : ℕ) (order : List ℕ) → order ≡ extend first (flat_map f (take start order))
+    → extend order (flat_map f (drop start order)) ≡ extend first (flat_map f order)
+level_step f first start order grown =
     let rest : List ℕ = flat_map f (drop start order) in
     let whole : flat_map f (take start order) ++ rest ≡ flat_map f order = sym (flat_map-append f (take start order) (drop start order)) ∙ ap (flat_map f) (take-append-drop start order) in
-    ap (λ (o : List ℕ). extend o rest) grown ∙ sym (extend-append (alone root) (flat_map f (take start order)) rest) ∙ ap (extend (alone root)) whole
+    ap (λ (o : List ℕ). extend o rest) grown ∙ sym (extend-append first (flat_map f (take start order)) rest) ∙ ap (extend first) whole
 
 -- which is the order of one level more
-pub kept_step : (ns : Seen) (root n : ℕ) (order : List ℕ) → order ≡ extend [] (levels ns root n) → extend (alone root) (flat_map (found_of ns) order) ≡ extend [] (levels ns root (suc n))
+pub one_level_more : (f : ℕ → List ℕ) (first : List ℕ) (n : ℕ) (order : List ℕ) → order ≡ order_to f first n → extend first (flat_map f order) ≡ order_to f first (n + 1)
+one_level_more f first n order kept = ap (λ (o : List ℕ). extend first (flat_map f o)) kept ∙ ap (order_to f first) (sym (add-one n))
+
+-- the entries before the new level lead to the new order
+pub grown_step : (f : ℕ → List ℕ) (first order added : List ℕ) (n : ℕ) → n ≡ length order → extend order added ≡ extend first (flat_map f order)
+    → extend order added ≡ extend first (flat_map f (take n (extend order added)))
+grown_step f first order added n end e =
+    e ∙ ap (λ (o : List ℕ). extend first (flat_map f o)) (sym (ap (λ (k : ℕ). take k (extend order added)) end ∙ extended_front order added order (length order) (omega arith) (take-length order)))
+
+-- where the order has all that its entries lead to, more levels add nothing
+stays : (f : ℕ → List ℕ) (first : List ℕ) (n more : ℕ) (order : List ℕ) → order ≡ order_to f first n → order ≡ extend first (flat_map f order) → order ≡ order_to f first (more + n)
+stays f first n zero order kept whole = (let none : n ≡ 0 + n = omega arith in kept ∙ ap (order_to f first) none)
+stays f first n (suc more) order kept whole =
+    let next : suc (more + n) ≡ suc more + n = omega arith in
+    whole ∙ ap (λ (o : List ℕ). extend first (flat_map f o)) (stays f first n more order kept whole) ∙ ap (order_to f first) next
+
+pub all_levels : (f : ℕ → List ℕ) (first order : List ℕ) (n most start : ℕ) → n ≤ most → start ≡ length order → order ≡ order_to f first n → order ≡ extend first (flat_map f (take start order)) → order ≡ order_to f first most
+all_levels f first order n most start few end kept grown =
+    let whole : order ≡ extend first (flat_map f order) = grown ∙ ap (λ (o : List ℕ). extend first (flat_map f o)) (ap (λ (k : ℕ). take k order) end ∙ take-length order) in
+    let many : (most - n) + n ≡ most = omega arith in
+    stays f first n (most - n) order kept whole ∙ ap (order_to f first) many
+
+-- what the order of so many levels leads to is the order of one level more
+kept_step : (ns : Seen) (root n : ℕ) (order : List ℕ) → order ≡ extend [] (levels ns root n) → extend (alone root) (flat_map (found_of ns) order) ≡ extend [] (levels ns root (suc n))
 kept_step ns root n order kept =
     let f = found_of ns in
     ap (λ (o : List ℕ). extend (alone root) (flat_map f o)) kept
@@ -160,12 +200,7 @@ kept_step ns root n order kept =
     ∙ sym (extend-append [] (root ∷ []) (flat_map f (levels ns root n)))
     ∙ ap (extend []) (sym (levels_shift ns root n))
 
--- the entries before the new level lead to the new order
-pub grown_step : (f : ℕ → List ℕ) (root : ℕ) (order added : List ℕ) → extend order added ≡ extend (alone root) (flat_map f order)
-    → extend order added ≡ extend (alone root) (flat_map f (take (length order) (extend order added)))
-grown_step f root order added e = e ∙ ap (λ (o : List ℕ). extend (alone root) (flat_map f o)) (sym (extended_front order added order (length order) (omega arith) (take-length order)))
-
-pub is_breadth : (ns : Seen) (root n : ℕ) (order : List ℕ) → n ≡ length ns.objects → order ≡ extend [] (levels ns root n) → order ≡ breadth ns root
+is_breadth : (ns : Seen) (root n : ℕ) (order : List ℕ) → n ≡ length ns.objects → order ≡ extend [] (levels ns root n) → order ≡ breadth ns root
 unfolding breadth
 is_breadth ns root n order many kept = kept ∙ extend_nothing (levels ns root n) ∙ ap (λ (k : ℕ). without 0 (first_kept (levels ns root k))) many
 

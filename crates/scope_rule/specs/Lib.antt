@@ -7,6 +7,7 @@ pub mod Needed
 pub mod Load
 pub mod Loads
 pub mod Opening
+pub mod Places
 pub mod Relocation
 pub mod Scope
 pub mod Searching

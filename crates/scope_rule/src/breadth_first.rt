@@ -1,17 +1,35 @@
-//! Breadth-first order.
+//! Breadth-first order, in one step for each name of an object that is reached, up to the first level that adds
+//! nothing.
 
-ghost use Rattle.std.specs.Prelude.{◌≡◌, ◌≤◌, ◌<◌, [], ◌∷◌, length, drop, flat_map, OnOk, IfOk};
+ghost use Rattle.std.specs.Prelude.{◌≡◌, ◌≤◌, [], ◌∷◌, length, drop, flat_map, OnOk, IfOk};
+ghost use Rattle.scope_rule.specs.Breadth.{breadth, extend, order_to};
 ghost use Rattle.scope_rule.specs.Loading.{found_of};
+ghost use Rattle.scope_rule.specs.Places.{ArePlaces, serials_of};
 ghost use Rattle.scope_rule.specs.Seen.{seen};
-ghost use Rattle.scope_rule.specs.Breadth.{breadth, extend};
 
+use crate::places::Places;
 use crate::view::View;
+use indexmap::IndexSet;
 use ld_base::{Serial, Serials};
 use std::alloc::{AllocError, Global};
 
-/// Puts those serials at the end that the list lacks; the linker's own is left out.
-pub(crate) fn extend(order: &mut Serials, serials: &[Serial]) -> Result<(), AllocError>
-    ensures { OnOk result (order.new ≡ extend order.old serials.now) }
+/// Puts a serial at the end if the order lacks it; the linker's own is left out.
+fn extend_by_one(order: &mut IndexSet<Serial>, serial: Serial) -> Result<(), AllocError>
+    ensures { OnOk result (order.new.keys ≡ extend order.old.keys (serial ∷ [])) }
+{
+    if serial != Serial::LINKER {
+        order.insert(serial)?;
+    }
+    Ok(())
+}
+
+/// Puts those serials at the end that the order lacks; the linker's own is left out.
+///
+/// # Errors
+///
+/// Want of memory.
+pub fn extend(order: &mut IndexSet<Serial>, serials: &[Serial]) -> Result<(), AllocError>
+    ensures { OnOk result (order.new.keys ≡ extend order.old.keys serials.now) }
 {
     for serial in serials {
         extend_by_one(order, *serial)?;
@@ -19,38 +37,62 @@ pub(crate) fn extend(order: &mut Serials, serials: &[Serial]) -> Result<(), Allo
     Ok(())
 }
 
-/// Puts a serial at the end if the list lacks it; the linker's own is left out.
-fn extend_by_one(order: &mut Serials, serial: Serial) -> Result<(), AllocError>
-    ensures { OnOk result (order.new ≡ extend order.old (serial ∷ [])) }
-{
-    if serial != Serial::LINKER && !order.as_slice().contains(&serial) {
-        order.push(serial)?;
-    }
-    Ok(())
-}
-
 /// Puts what the names of an object found at the end.
-fn extend_by_found(view: &View, order: &mut Serials, serial: Serial) -> Result<(), AllocError>
-    ensures { OnOk result (order.new ≡ extend order.old (found_of (seen view.now) serial)) }
+fn extend_by_found(
+    view: &View,
+    places: &Places,
+    order: &mut IndexSet<Serial>,
+    serial: Serial,
+) -> Result<(), AllocError>
+    requires { ArePlaces (serials_of (seen view.now)) places.now }
+    ensures { OnOk result (order.new.keys ≡ extend order.old.keys (found_of (seen view.now) serial)) }
 {
     if serial == Serial::LINKER {
         return Ok(());
     }
-    match view.object(serial) {
+    match places.object(view, serial) {
         Some(object) => extend(order, object.found.as_slice()),
         None => Ok(()),
     }
 }
 
 /// Puts the next level at the end: what the entries from `start` on found.
-fn extend_by_level(view: &View, order: &mut Serials, start: usize) -> Result<(), AllocError>
-    requires { start ≤ length order.old }
-    ensures { OnOk result (order.new ≡ extend order.old (flat_map (found_of (seen view.now)) (drop start order.old))) }
+fn extend_by_level(
+    view: &View,
+    places: &Places,
+    order: &mut IndexSet<Serial>,
+    start: usize,
+) -> Result<(), AllocError>
+    requires places { ArePlaces (serials_of (seen view.now)) places.now }
+    requires start { start ≤ length order.old.keys }
+    ensures { OnOk result (order.new.keys ≡ extend order.old.keys (flat_map (found_of (seen view.now)) (drop start order.old.keys))) }
 {
     let end = order.len();
     for i in start..end {
         let serial = order.as_slice()[i];
-        extend_by_found(view, order, serial)?;
+        extend_by_found(view, places, order, serial)?;
+    }
+    Ok(())
+}
+
+/// Puts so many levels at the end, as far as there are any that put something there.
+fn extend_by_levels(
+    view: &View,
+    places: &Places,
+    order: &mut IndexSet<Serial>,
+    most: usize,
+) -> Result<(), AllocError>
+    requires { ArePlaces (serials_of (seen view.now)) places.now }
+    ensures { OnOk result (order.new.keys ≡ order_to (found_of (seen view.now)) order.old.keys most) }
+{
+    let mut start = 0;
+    for _ in 0..most {
+        let end = order.len();
+        if start == end {
+            return Ok(());
+        }
+        extend_by_level(view, places, order, start)?;
+        start = end;
     }
     Ok(())
 }
@@ -64,13 +106,24 @@ fn extend_by_level(view: &View, order: &mut Serials, start: usize) -> Result<(),
 pub fn breadth(alloc: Global, view: &View, root: Serial) -> Result<Serials, AllocError>
     ensures { IfOk result (λ order. order ≡ breadth (seen view.now) root) }
 {
-    let mut order = Serials::new(alloc);
+    let places = Places::of(alloc, view)?;
+    let order = breadth_among(alloc, view, &places, root)?;
+    Serials::from_slice(alloc, order.as_slice())
+}
+
+/// The same, among objects whose places are known: they are gathered once for many roots.
+pub(crate) fn breadth_among(
+    alloc: Global,
+    view: &View,
+    places: &Places,
+    root: Serial,
+) -> Result<IndexSet<Serial>, AllocError>
+    requires { ArePlaces (serials_of (seen view.now)) places.now }
+    ensures { IfOk result (λ order. order.keys ≡ breadth (seen view.now) root) }
+{
+    let mut order = IndexSet::new(alloc);
     extend_by_one(&mut order, root)?;
-    let mut start = 0;
-    for _ in 0..view.objects.len() + view.added.len() {
-        let end = order.len();
-        extend_by_level(view, &mut order, start)?;
-        start = end;
-    }
+    let most = view.objects.len() + view.added.len();
+    extend_by_levels(view, places, &mut order, most)?;
     Ok(order)
 }

@@ -21,13 +21,14 @@ mod law;
 mod linker_object;
 mod namespace;
 mod opening;
+mod places;
 mod relocation;
 mod scoping;
 mod searching;
 mod view;
 
 pub use arrival::Arrival;
-pub use breadth_first::breadth;
+pub use breadth_first::{breadth, extend};
 pub use choosing::{choice_of, choose, choose_in, choose_reloc, is_own, want_of};
 pub use law::{
     breadth_grows, extends_at_the_end, finds_loaded, found_stands, loads_breadth_first,
@@ -37,6 +38,7 @@ pub use law::{
 pub use linker_object::linker_symbol;
 pub use namespace::{Namespace, OpenRec, Opens};
 pub use opening::{OpenedLists, opened_lists};
+pub use places::{Places, object_at};
 pub use relocation::{has_no_symbol, is_copy};
 pub use scoping::scope;
 pub use searching::{search_breadth, search_global};

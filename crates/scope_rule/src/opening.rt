@@ -1,14 +1,15 @@
 //! What an opening makes of a namespace.
 
-ghost use Rattle.std.specs.Prelude.{◌≡◌, ◌==◌, ◌++◌, IfOk, OnOk, map};
+ghost use Rattle.std.specs.Prelude.{◌≡◌, ◌==◌, ◌++◌, ◌∷◌, [], IfOk, OnOk, map};
 ghost use Rattle.std.specs.List.{list_any};
 ghost use Rattle.scope_rule.specs.Breadth.{breadth, extend};
-ghost use Rattle.scope_rule.specs.Opening.{global_after, opens_after, raised};
+ghost use Rattle.scope_rule.specs.Opening.{AreKnown, global_after, opens_after, raised};
 ghost use Rattle.scope_rule.specs.Seen.{seen};
 
 use crate::breadth_first::{breadth, extend};
 use crate::namespace::{Namespace, OpenRec, Opens};
 use crate::view::View;
+use indexmap::IndexSet;
 use ld_base::{Added, Serial, Serials};
 use std::alloc::{AllocError, Global};
 
@@ -56,17 +57,54 @@ pub fn opened_lists(
     })
 }
 
+/// The serials of a list, each once, and the linker's own, which is put at the end of none.
+fn known_of(alloc: Global, list: &[Serial]) -> Result<IndexSet<Serial>, AllocError>
+    ensures { IfOk result (λ known. AreKnown list.now known.keys) }
+{
+    let mut known = IndexSet::new(alloc);
+    extend(&mut known, list)?;
+    known.insert(Serial::LINKER)?;
+    Ok(known)
+}
+
+/// Puts a serial at the end of a list that lacks it, where its serials are known.
+fn push_unknown(
+    known: &mut IndexSet<Serial>,
+    list: &mut Serials,
+    serial: Serial,
+) -> Result<(), AllocError>
+    requires { AreKnown list.old known.old.keys }
+    ensures known { OnOk result (AreKnown list.new known.new.keys) }
+    ensures list { OnOk result (list.new ≡ extend list.old (serial ∷ [])) }
+{
+    if known.insert(serial)? {
+        list.push(serial)?;
+    }
+    Ok(())
+}
+
+/// Puts those serials at the end that a list lacks; the linker's own is left out.
+fn extend_list(alloc: Global, list: &mut Serials, serials: &[Serial]) -> Result<(), AllocError>
+    ensures { OnOk result (list.new ≡ extend list.old serials.now) }
+{
+    let mut known = known_of(alloc, list.as_slice())?;
+    for serial in serials {
+        push_unknown(&mut known, list, *serial)?;
+    }
+    Ok(())
+}
+
 /// Puts what a root leads to at the end of a list that lacks it.
 fn extend_by_breadth(
     alloc: Global,
     view: &View,
     root: Serial,
-    order: &mut Serials,
+    list: &mut Serials,
 ) -> Result<(), AllocError>
-    ensures { OnOk result (order.new ≡ extend order.old (breadth (seen view.now) root)) }
+    ensures { OnOk result (list.new ≡ extend list.old (breadth (seen view.now) root)) }
 {
     let libraries = breadth(alloc, view, root)?;
-    extend(order, libraries.as_slice())
+    extend_list(alloc, list, libraries.as_slice())
 }
 
 /// The global objects after an opening.

@@ -1,44 +1,62 @@
 //! The scope of an object.
 
-ghost use Rattle.std.specs.Prelude.{◌≡◌, ◌++◌, ◌||◌, [], not, filter, flat_map, OnOk, IfOk};
-ghost use Rattle.scope_rule.specs.Breadth.{breadth};
+ghost use Rattle.std.specs.Prelude.{◌≡◌, ◌++◌, ◌||◌, [], not, if◌then◌else◌, filter, flat_map, OnOk, IfOk};
+ghost use Rattle.scope_rule.specs.Breadth.{breadth, has};
 ghost use Rattle.scope_rule.specs.Loading.{is_dying, is_dying_at};
+ghost use Rattle.scope_rule.specs.Places.{ArePlaces, serials_of};
 ghost use Rattle.scope_rule.specs.Seen.{seen};
 ghost use Rattle.scope_rule.specs.Scope.{opened_with, whole_scope, scope};
 
-use crate::breadth_first::breadth;
+use crate::breadth_first::breadth_among;
+use crate::places::Places;
 use crate::view::{View, is_dying};
+use indexmap::IndexSet;
 use ld_base::{Loaded, Serial, Serials};
 use std::alloc::{AllocError, Global};
+
+/// Puts libraries at the end, if an object is one of them.
+fn append_own(
+    libraries: &IndexSet<Serial>,
+    serial: Serial,
+    scope: &mut Serials,
+) -> Result<(), AllocError>
+    ensures { OnOk result (scope.new ≡ scope.old ++ (if has libraries.now.keys serial then libraries.now.keys else [])) }
+{
+    if libraries.contains(&serial) {
+        scope.extend_from_slice(libraries.as_slice())?;
+    }
+    Ok(())
+}
 
 /// Puts at the end what an open brings to the scope of an object.
 fn append_opened(
     alloc: Global,
     view: &View,
+    places: &Places,
     owner: &Loaded,
     root: Serial,
     scope: &mut Serials,
 ) -> Result<(), AllocError>
+    requires { ArePlaces (serials_of (seen view.now)) places.now }
     ensures { OnOk result (scope.new ≡ scope.old ++ opened_with (seen view.now) owner.now root) }
 {
-    let opened = breadth(alloc, view, root)?;
-    if opened.as_slice().contains(&owner.serial) {
-        scope.extend_from_slice(opened.as_slice())?;
-    }
-    Ok(())
+    let libraries = breadth_among(alloc, view, places, root)?;
+    append_own(&libraries, owner.serial, scope)
 }
 
 /// Puts at the end what the opens bring to the scope of an object.
 fn append_opens(
     alloc: Global,
     view: &View,
+    places: &Places,
     owner: &Loaded,
     scope: &mut Serials,
 ) -> Result<(), AllocError>
+    requires { ArePlaces (serials_of (seen view.now)) places.now }
     ensures { OnOk result (scope.new ≡ scope.old ++ flat_map (λ r. opened_with (seen view.now) owner.now r.root) (seen view.now).opens) }
 {
     for open in view.opens {
-        append_opened(alloc, view, owner, open.root, scope)?;
+        append_opened(alloc, view, places, owner, open.root, scope)?;
     }
     Ok(())
 }
@@ -47,12 +65,14 @@ fn append_opens(
 fn append_breadth(
     alloc: Global,
     view: &View,
+    places: &Places,
     root: Serial,
     scope: &mut Serials,
 ) -> Result<(), AllocError>
+    requires { ArePlaces (serials_of (seen view.now)) places.now }
     ensures { OnOk result (scope.new ≡ scope.old ++ breadth (seen view.now) root) }
 {
-    let libraries = breadth(alloc, view, root)?;
+    let libraries = breadth_among(alloc, view, places, root)?;
     scope.extend_from_slice(libraries.as_slice())
 }
 
@@ -60,10 +80,12 @@ fn append_breadth(
 fn fill_scope(
     alloc: Global,
     view: &View,
+    places: &Places,
     owner: &Loaded,
     scope: &mut Serials,
 ) -> Result<(), AllocError>
-    requires { scope.old ≡ [] }
+    requires places { ArePlaces (serials_of (seen view.now)) places.now }
+    requires empty { scope.old ≡ [] }
     ensures { OnOk result (scope.new ≡ whole_scope (seen view.now) owner.now) }
 {
     if owner.object.flags.symbolic {
@@ -72,8 +94,8 @@ fn fill_scope(
     if !owner.deep {
         scope.extend_from_slice(view.global)?;
     }
-    append_opens(alloc, view, owner, scope)?;
-    append_breadth(alloc, view, owner.serial, scope)?;
+    append_opens(alloc, view, places, owner, scope)?;
+    append_breadth(alloc, view, places, owner.serial, scope)?;
     if owner.deep {
         scope.extend_from_slice(view.global)?;
     }
@@ -81,11 +103,17 @@ fn fill_scope(
 }
 
 /// Every object that a reference of the owner may be to, those closing too.
-fn whole_scope(alloc: Global, view: &View, owner: &Loaded) -> Result<Serials, AllocError>
+fn whole_scope(
+    alloc: Global,
+    view: &View,
+    places: &Places,
+    owner: &Loaded,
+) -> Result<Serials, AllocError>
+    requires { ArePlaces (serials_of (seen view.now)) places.now }
     ensures { IfOk result (λ s. s ≡ whole_scope (seen view.now) owner.now) }
 {
     let mut scope = Serials::new(alloc);
-    fill_scope(alloc, view, owner, &mut scope)?;
+    fill_scope(alloc, view, places, owner, &mut scope)?;
     Ok(scope)
 }
 
@@ -93,16 +121,18 @@ fn whole_scope(alloc: Global, view: &View, owner: &Loaded) -> Result<Serials, Al
 fn visible(
     alloc: Global,
     view: &View,
+    places: &Places,
     owner: &Loaded,
     serials: &[Serial],
 ) -> Result<Serials, AllocError>
+    requires { ArePlaces (serials_of (seen view.now)) places.now }
     ensures { IfOk result (λ s. s ≡ filter (λ s. is_dying owner.now || not (is_dying_at (seen view.now) s)) serials.now) }
 {
     let sees_dying = is_dying(owner);
     let seen: Vec<Serial> = serials
         .iter()
         .copied()
-        .filter(|serial| sees_dying || !view.is_dying(*serial))
+        .filter(|serial| sees_dying || !places.is_dying(view, *serial))
         .collect(alloc)?;
     Ok(Serials::from(seen))
 }
@@ -116,6 +146,7 @@ fn visible(
 pub fn scope(alloc: Global, view: &View, owner: &Loaded) -> Result<Serials, AllocError>
     ensures { IfOk result (λ s. s ≡ scope (seen view.now) owner.now) }
 {
-    let whole = whole_scope(alloc, view, owner)?;
-    visible(alloc, view, owner, whole.as_slice())
+    let places = Places::of(alloc, view)?;
+    let whole = whole_scope(alloc, view, &places, owner)?;
+    visible(alloc, view, &places, owner, whole.as_slice())
 }

@@ -48,7 +48,7 @@ impl Namespace {
 impl<'a> View<'a> {
     ghost use Rattle.std.specs.Prelude.{◌≡◌};
     ghost use Rattle.std.specs.Option.{option_copied};
-    ghost use Rattle.scope_rule.specs.Loading.{object_of, is_dying_at};
+    ghost use Rattle.scope_rule.specs.Loading.{object_of};
     ghost use Rattle.scope_rule.specs.Seen.{seen};
 
     /// The object with a serial, if it is there.
@@ -59,16 +59,6 @@ impl<'a> View<'a> {
         match with_serial(self.objects, serial) {
             Some(object) => Some(object),
             None => with_serial(self.added, serial),
-        }
-    }
-
-    /// Whether there is such an object and its destructors run.
-    pub fn is_dying(&self, serial: Serial) -> bool
-        ensures { result ≡ is_dying_at (seen self.now) serial }
-    {
-        match self.object(serial) {
-            Some(object) => is_dying(object),
-            None => false,
         }
     }
 }

@@ -5,10 +5,10 @@ use Rattle.scope_rule.specs.Seen.{seen}
 use Rattle.scope_rule.specs.Breadth.{extend}
 use Rattle.scope_rule.proofs.breadth_first.extend_by_level.Given as goal
 
--- the list still begins with the one given, and the entries that are left extend it to the whole
+-- the order still begins with the one given, and the entries that are left extend it to the whole
 abbrev pub invariant-loop-i : goal.invariant-loop-i
 invariant-loop-i l = record {
-  begins : take l.end l.order ≡ l.fn.order;
-  long : l.end ≤ length l.order;
-  rest : extend l.order (flat_map (found_of (seen l.view)) (drop l.i l.fn.order)) ≡ extend l.fn.order (flat_map (found_of (seen l.view)) (drop l.start l.fn.order));
+  begins : take l.end l.order.keys ≡ l.fn.order.keys;
+  long : l.end ≤ length l.order.keys;
+  rest : extend l.order.keys (flat_map (found_of (seen l.view)) (drop l.i l.fn.order.keys)) ≡ extend l.fn.order.keys (flat_map (found_of (seen l.view)) (drop l.start l.fn.order.keys));
 }
