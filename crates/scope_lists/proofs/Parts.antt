@@ -16,7 +16,7 @@ use Rattle.scope_lists.specs.Kept.{ArePlaced, IsOwn, IsScope, after_of, before_o
 use Rattle.scope_lists.specs.Places.{ArePlaces, serials_of}
 use Rattle.scope_lists.specs.Searched.{FindsAlike, serials_in}
 use Rattle.scope_lists.specs.declared.kept.KeptScope.{KeptScope}
-use Rattle.scope_lists.specs.declared.places.Places.{Places}
+use Rattle.scope_rule.specs.declared.places.Places.{Places}
 use Rattle.scope_lists.specs.declared.searched.Searched.{Searched}
 use Rattle.scope_lists.proofs.Stands.{entries_noted, sees_all}
 

@@ -13,7 +13,7 @@ use Rattle.scope_lists.specs.Places.{place_in, place_of, serials_of}
 use Rattle.scope_lists.specs.Searched.{FindsAlike, serials_in}
 use Rattle.scope_lists.specs.declared.kept.KeptScope.{KeptScope}
 use Rattle.scope_lists.specs.declared.kept.KeptScopes.{KeptScopes}
-use Rattle.scope_lists.specs.declared.places.Places.{Places}
+use Rattle.scope_rule.specs.declared.places.Places.{Places}
 use Rattle.scope_lists.specs.declared.searched.Searched.{Searched}
 
 -- the object with a serial among those with such serials, and as it is noted

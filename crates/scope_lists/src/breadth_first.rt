@@ -1,7 +1,7 @@
 //! Breadth-first order, in one step for each object that an object's names found, up to the level with which
 //! all are there.
 
-ghost use Rattle.std.specs.Prelude.{◌≡◌, ◌≤◌, ◌∷◌, ◌&&◌, [], nat_le, length, drop, flat_map, IfOk, OnOk};
+ghost use Rattle.std.specs.Prelude.{◌≡◌, ◌≤◌, ◌&&◌, nat_le, length, drop, flat_map, IfOk, OnOk};
 ghost use Rattle.std.specs.List.{list_all};
 ghost use Rattle.scope_rule.specs.Breadth.{breadth, extend, has, order_to};
 ghost use Rattle.scope_rule.specs.Loading.{found_of};
@@ -11,28 +11,8 @@ ghost use Rattle.scope_lists.specs.Links.{AreLinks};
 use crate::links::Links;
 use indexmap::IndexSet;
 use ld_base::Serial;
-use scope_rule::{View, breadth_grows, extends_at_the_end};
+use scope_rule::{View, breadth_grows, extend, extends_at_the_end};
 use std::alloc::{AllocError, Global};
-
-/// Puts a serial at the end if the order lacks it; the linker's own is left out.
-fn extend_by_one(order: &mut IndexSet<Serial>, serial: Serial) -> Result<(), AllocError>
-    ensures { OnOk result (order.new.keys ≡ extend order.old.keys (serial ∷ [])) }
-{
-    if serial != Serial::LINKER {
-        order.insert(serial)?;
-    }
-    Ok(())
-}
-
-/// Puts those serials at the end that the order lacks.
-pub(crate) fn extend(order: &mut IndexSet<Serial>, serials: &[Serial]) -> Result<(), AllocError>
-    ensures { OnOk result (order.new.keys ≡ extend order.old.keys serials.now) }
-{
-    for serial in serials {
-        extend_by_one(order, *serial)?;
-    }
-    Ok(())
-}
 
 /// Puts the next level at the end: what the entries from `start` on found.
 fn extend_by_level(
@@ -108,7 +88,7 @@ pub(crate) fn breadth(
 {
     breadth_grows();
     let mut order = IndexSet::new(alloc);
-    extend_by_one(&mut order, root)?;
+    extend(&mut order, &[root])?;
     let most = view.objects.len() + view.added.len();
     extend_by_levels(view, links, &mut order, most)?;
     Ok(order)

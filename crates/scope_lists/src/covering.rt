@@ -4,11 +4,11 @@ ghost use Rattle.std.specs.Prelude.{◌≡◌, ◌&&◌};
 ghost use Rattle.std.specs.List.{list_all};
 ghost use Rattle.scope_rule.specs.Breadth.{has};
 
-use crate::breadth_first::{extend, has_each};
+use crate::breadth_first::has_each;
 use crate::links::Links;
 use indexmap::IndexSet;
 use ld_base::Serial;
-use scope_rule::{OpenRec, View, breadth_grows};
+use scope_rule::{OpenRec, View, breadth_grows, extend};
 use std::alloc::{AllocError, Global};
 
 /// The objects of the global list, where it has all that any names found and the roots of all openings, as

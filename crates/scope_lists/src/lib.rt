@@ -35,6 +35,6 @@ pub use holders::Holders;
 pub use law::lists_stay;
 pub use lists::SearchLists;
 pub use name_order::NameOrder;
-pub use places::object_at;
+pub use scope_rule::object_at;
 pub use searched::{ScopeParts, Searched};
 pub use version_places::{VersionNames, VersionPlace, version_name};

@@ -12,6 +12,6 @@ returns c =
     let added = c.args.view.now.added.now in
     let root : ℕ = c.args.root in
     let many : ℕ = length there + length added in
-    let first : c.extend_by_one.new.order.keys ≡ extend [] (root ∷ []) = c.in_ok-extend_by_one.ensures ∙ ap (λ (l : List ℕ). extend l (root ∷ [])) c.new-order.ensures.empty in
+    let first : c.extend.new.order.keys ≡ extend [] (root ∷ []) = c.in_ok-extend.ensures ∙ ap (λ (l : List ℕ). extend l (root ∷ [])) c.new-order.ensures.empty in
     let kept : c.extend_by_levels.new.order.keys ≡ order_to (found_of s) (extend [] (root ∷ [])) many = c.in_ok-extend_by_levels.ensures ∙ ap (λ (l : List ℕ). order_to (found_of s) l many) first in
     is_breadth s root there added many c.extend_by_levels.new.order.keys c.breadth_grows.ensures refl refl kept
