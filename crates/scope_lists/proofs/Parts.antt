@@ -13,7 +13,7 @@ use Rattle.scope_rule.specs.Scope.{scope, whole_scope}
 use Rattle.scope_rule.specs.Seen.{Seen}
 use Rattle.scope_lists.specs.Brought.{brought_in}
 use Rattle.scope_lists.specs.Kept.{ArePlaced, IsOwn, IsScope, after_of, before_of, entry_in, entry_of, kept_in}
-use Rattle.scope_lists.specs.Places.{ArePlaces, serials_of}
+use Rattle.scope_rule.specs.Places.{ArePlaces, serials_of}
 use Rattle.scope_lists.specs.Searched.{FindsAlike, serials_in}
 use Rattle.scope_lists.specs.declared.kept.KeptScope.{KeptScope}
 use Rattle.scope_rule.specs.declared.places.Places.{Places}

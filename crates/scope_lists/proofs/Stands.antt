@@ -21,7 +21,7 @@ use Rattle.scope_lists.specs.Holders.{AreHolders}
 use Rattle.scope_lists.specs.Kept.{ArePlaced, AreScopes, IsScope, KeepsAll, entry_in, entry_of, kept_at, kept_in}
 use Rattle.scope_lists.specs.Links.{found_once}
 use Rattle.scope_lists.specs.Lists.{AreListed, AreListsOf, ArePartsOf, IsListed, IsListedAt, IsSearched}
-use Rattle.scope_lists.specs.Places.{ArePlaces, place_in, place_of, serials, serials_of}
+use Rattle.scope_rule.specs.Places.{ArePlaces, place_in, place_of, serials, serials_of}
 use Rattle.scope_lists.specs.Searched.{at_place, in_parts, serials_in}
 use Rattle.scope_lists.specs.declared.holders.Held.{Held}
 use Rattle.scope_lists.specs.declared.kept.KeptScope.{KeptScope}

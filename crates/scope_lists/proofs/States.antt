@@ -17,7 +17,7 @@ use Rattle.scope_lists.specs.Links.{found_once}
 use Rattle.scope_lists.specs.Lists.{AreListsOf, ChangesStateAlone}
 use Rattle.scope_lists.specs.NameOrder.{IsNameOrder}
 use Rattle.scope_lists.specs.NameOrders.{AreNameOrders}
-use Rattle.scope_lists.specs.Places.{place_in, serials}
+use Rattle.scope_rule.specs.Places.{place_in, serials}
 use Rattle.scope_lists.specs.Searched.{at_place}
 use Rattle.scope_lists.specs.declared.kept.KeptScope.{KeptScope}
 use Rattle.scope_lists.specs.declared.kept.KeptScopes.{KeptScopes}

@@ -9,7 +9,7 @@ use Rattle.scope_rule.specs.Seen.{Seen}
 use Rattle.scope_lists.specs.Brought.{brought_in}
 use Rattle.scope_lists.specs.Covering.{IsCovered}
 use Rattle.scope_lists.specs.Holders.{AreHolders}
-use Rattle.scope_lists.specs.Places.{place_in, place_of, serials_of}
+use Rattle.scope_rule.specs.Places.{place_in, place_of, serials_of}
 use Rattle.scope_lists.specs.Searched.{FindsAlike, serials_in}
 use Rattle.scope_lists.specs.declared.kept.KeptScope.{KeptScope}
 use Rattle.scope_lists.specs.declared.kept.KeptScopes.{KeptScopes}

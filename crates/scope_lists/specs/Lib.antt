@@ -8,6 +8,5 @@ pub mod Lists
 pub mod NameOrder
 pub mod NameOrders
 pub mod Owners
-pub mod Places
 pub mod Searched
 pub mod VersionPlaces

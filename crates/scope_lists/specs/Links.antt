@@ -4,7 +4,7 @@ use Rattle.ld_base.specs.declared.linking.Loaded.{Loaded}
 use Rattle.scope_rule.specs.Breadth.{extend, has}
 use Rattle.scope_rule.specs.Loading.{found_of}
 use Rattle.scope_rule.specs.Seen.{Seen}
-use Rattle.scope_lists.specs.Places.{ArePlaces, serials_of}
+use Rattle.scope_rule.specs.Places.{ArePlaces, serials_of}
 use Rattle.scope_lists.specs.declared.links.Links.{Links}
 
 -- what an object's names found, each once

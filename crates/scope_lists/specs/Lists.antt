@@ -9,7 +9,7 @@ use Rattle.scope_lists.specs.Holders.{AreHolders}
 use Rattle.scope_lists.specs.Kept.{AreScopes, kept_at}
 use Rattle.scope_lists.specs.Links.{AreLinks}
 use Rattle.scope_lists.specs.NameOrders.{AreNameOrders}
-use Rattle.scope_lists.specs.Places.{place_of}
+use Rattle.scope_rule.specs.Places.{place_of}
 use Rattle.scope_lists.specs.Searched.{FindsAlike, at_place, in_parts, serials_in}
 use Rattle.scope_lists.specs.declared.lists.SearchLists.{SearchLists}
 use Rattle.scope_lists.specs.declared.searched.ScopeParts.{ScopeParts}

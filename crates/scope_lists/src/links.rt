@@ -5,10 +5,9 @@ ghost use Rattle.scope_rule.specs.Breadth.{extend};
 ghost use Rattle.scope_rule.specs.Seen.{seen};
 ghost use Rattle.scope_lists.specs.Links.{found_once};
 
-use crate::places::Places;
 use indexmap::IndexSet;
 use ld_base::{Loaded, Serial, Serials};
-use scope_rule::{View, extend, extends_at_the_end};
+use scope_rule::{Places, View, extend, extends_at_the_end};
 use std::alloc::{AllocError, Global};
 
 /// Where the objects of a namespace stand, and what the names of each found, each once: a name that

@@ -2,9 +2,8 @@
 
 use crate::long_walks::has_long_walks;
 use crate::name_order::NameOrder;
-use crate::places::object_at;
 use ld_base::Loaded;
-use scope_rule::View;
+use scope_rule::{View, object_at};
 use std::alloc::{AllocError, Global};
 use std::collections::HashMap;
 

@@ -6,10 +6,9 @@ ghost use Rattle.scope_rule.specs.Breadth.{has};
 ghost use Rattle.scope_rule.specs.Seen.{seen};
 ghost use Rattle.scope_lists.specs.Owners.{leads_elsewhere};
 
-use crate::places::object_at;
 use indexmap::IndexSet;
 use ld_base::{Loaded, Serial};
-use scope_rule::View;
+use scope_rule::{View, object_at};
 use std::alloc::{AllocError, Global};
 
 /// Their serials.

@@ -8,7 +8,7 @@ ghost use Rattle.scope_rule.specs.Scope.{scope, whole_scope};
 ghost use Rattle.scope_rule.specs.Seen.{seen};
 ghost use Rattle.scope_lists.specs.Brought.{brought_in};
 ghost use Rattle.scope_lists.specs.Kept.{IsOwn, IsScope, after_of, before_of, entry_in};
-ghost use Rattle.scope_lists.specs.Places.{ArePlaces, serials_of};
+ghost use Rattle.scope_rule.specs.Places.{ArePlaces, serials_of};
 ghost use Rattle.scope_lists.specs.declared.searched.Searched.{Searched as Entry};
 
 use crate::breadth_first::breadth;
@@ -17,10 +17,9 @@ use crate::covering::Covering;
 use crate::kept::KeptScope;
 use crate::links::Links;
 use crate::owners::Owners;
-use crate::places::{Places, object_at};
 use crate::searched::{Searched, entries};
 use ld_base::{Loaded, Serial, Serials};
-use scope_rule::{View, is_dying};
+use scope_rule::{Places, View, is_dying, object_at};
 use std::alloc::{AllocError, Global};
 use std::marker::Model;
 
@@ -122,17 +121,6 @@ fn fill_parts(
     after.push(Serial::LINKER)
 }
 
-/// Whether there is such an object and its destructors run.
-fn is_dying_at(view: &View, places: &Places, serial: Serial) -> bool
-    requires { ArePlaces (serials_of (seen view.now)) places.now }
-    ensures { result ≡ is_dying_at (seen view.now) serial }
-{
-    match places.object(view, serial) {
-        Some(object) => is_dying(object),
-        None => false,
-    }
-}
-
 /// Of these objects those whose destructors don't run.
 fn standing(
     alloc: Global,
@@ -146,7 +134,7 @@ fn standing(
     let found: Vec<Serial> = whole
         .iter()
         .copied()
-        .filter(|serial| !is_dying_at(view, places, *serial))
+        .filter(|serial| !places.is_dying(view, *serial))
         .collect(alloc)?;
     Ok(Serials::from(found))
 }
@@ -224,7 +212,7 @@ impl<'a, 'b> Scopes<'a, 'b> {
     ghost use Rattle.scope_lists.specs.Brought.{brought_in};
     ghost use Rattle.scope_lists.specs.Kept.{IsOwn, IsScope, entry_in};
     ghost use Rattle.scope_lists.specs.Links.{AreLinks};
-    ghost use Rattle.scope_lists.specs.Places.{serials_of};
+    ghost use Rattle.scope_rule.specs.Places.{serials_of};
     ghost use Rattle.scope_lists.specs.declared.searched.Searched.{Searched as Entry};
 
     /// Those of objects of what is seen of a namespace.

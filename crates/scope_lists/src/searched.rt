@@ -4,8 +4,8 @@ ghost use Rattle.std.specs.Prelude.{◌≡◌, map, IfOk};
 ghost use Rattle.scope_lists.specs.Kept.{entry_of};
 
 use crate::holders::Holders;
-use crate::places::Places;
 use ld_base::Serial;
+use scope_rule::Places;
 use std::alloc::{AllocError, Global};
 
 /// An object that is searched: its serial, and its place in load order where it is there.

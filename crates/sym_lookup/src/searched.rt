@@ -18,8 +18,8 @@ ghost use Rattle.scope_lists.specs.VersionPlaces.Places.{places_of};
 
 use crate::sym_find::{Find, Sought, pick_ordered, rules_out};
 use ld_base::{Loaded, Serial, one_pick};
-use scope_lists::{Holders, NameOrder, ScopeParts, SearchLists, Searched, VersionNames, object_at};
-use scope_rule::{View, linker_symbol};
+use scope_lists::{Holders, NameOrder, ScopeParts, SearchLists, Searched, VersionNames};
+use scope_rule::{View, linker_symbol, object_at};
 
 /// The object at a place, if any.
 fn object_of<'a>(view: &View<'a>, place: Option<usize>) -> Option<&'a Loaded>
