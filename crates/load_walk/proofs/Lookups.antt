@@ -1,12 +1,11 @@
 -- What the check of versions looks up by name.
-use Rattle.std.proofs.Common.{◌≡◌, ℕ, ◌==◌, ◌+◌, ◌<◌, ◌≤◌, Bool, true, false, not, ◌||◌, inl, inr, List, [], ◌∷◌, ◌++◌, length, get_or, take, Some, None, cond, refl, sym, ap, ◌∙◌, arith}
-use Rattle.std.specs.Prelude.{position}
+use Rattle.std.proofs.Common.{◌≡◌, ℕ, ◌==◌, ◌+◌, ◌<◌, ◌≤◌, Bool, true, false, not, ◌||◌, inl, inr, List, [], ◌∷◌, ◌++◌, length, get_or, take, Some, None, Option, cond, refl, subst, sym, ap, ◌∙◌, arith}
+use Rattle.std.specs.Prelude.{nat_eq, position, IfSome}
 use Rattle.std.specs.Global.{Vec}
-use Rattle.std.specs.List.{list_any, find, position_or_len}
+use Rattle.std.specs.List.{list_any, position_or_len}
 use Rattle.std.specs.Option.{option_or, is_some}
 use Rattle.std.specs.Str.{bytes_eq}
 use Rattle.std.proofs.Math.Bool.{or-false}
-use Rattle.std.proofs.ByRecursion.{All-push}
 use Rattle.std.proofs.lemmas.Bool.{cases_Bool, eqb-true}
 use Rattle.std.proofs.lemmas.Cmp.{nat_list_eq_equiv}
 use Rattle.std.proofs.lemmas.Grind.{common_steps}
@@ -20,8 +19,8 @@ use Rattle.ld_base.specs.Version.{is_base}
 use Rattle.ld_base.specs.declared.linking.Loaded.{Loaded}
 use Rattle.ld_base.specs.declared.object.Verdef.{Verdef}
 use Rattle.scope_rule.specs.Needed.{defines}
-use Rattle.load_walk.specs.declared.lookup.Definer.{Definer}
-use Rattle.load_walk.specs.Lookup.{named, place_of, has, defined_at, IsKnown, Knows}
+use Rattle.load_walk.specs.declared.lookup.Defined.{Defined}
+use Rattle.load_walk.specs.Lookup.{named, place_of, IsKnown, Knows}
 use Rattle.load_walk.proofs.Missing.{same_path}
 
 -- one more element
@@ -67,15 +66,16 @@ named_inserted names name bytes =
 pub defines_name : (verdef : Verdef) (version name : List ℕ) → name ≡ verdef.name → is_base verdef ≡ false → bytes_eq version name ≡ defines version verdef
 defines_name verdef version name is own = rw (is, nat_list_eq_equiv.symm version verdef.name, own) refl
 
--- what is known of an object is so
-pub known_answers : (objects : List Loaded) (known : List Definer) (serial : ℕ) (definer : Definer) → Knows objects known → find (λ d. d.serial == serial) known ≡ Some definer → (version : List ℕ) → has definer.defined version ≡ defined_at objects serial version
-known_answers objects [] serial definer knows found version = cc
-known_answers objects (d ∷ rest) serial definer knows found version =
-    elim (cases_Bool (d.serial == serial)) [
-      | inl same ↦ let here : d ≡ definer = (let at : Some d ≡ Some definer = rw same at found in cc) in rw (← here, ← eqb-true d.serial serial same) (knows.0 version)
-      | inr other ↦ known_answers objects rest serial definer knows.1 (rw other at found) version
-    ]
+-- ---- what is known of the versions of objects
+
+pub known_answers : (objects : List Loaded) (known : ℕ → Option Defined) (serial : ℕ) (defined : Defined) → Knows objects known → known serial ≡ Some defined → IsKnown objects serial defined
+known_answers objects known serial defined knows found = subst (λ (o : Option Defined). IfSome o (IsKnown objects serial)) found (knows serial)
 
 -- one more is known
-pub known_more : (objects : List Loaded) (known : List Definer) (definer : Definer) → Knows objects known → ((version : List ℕ) → has definer.defined version ≡ defined_at objects definer.serial version) → Knows objects (known ++ definer ∷ [])
-known_more objects known definer knows here = All-push (IsKnown objects) known definer knows here
+pub known_more : (objects : List Loaded) (old new : ℕ → Option Defined) (serial : ℕ) (defined : Defined) → Knows objects old → IsKnown objects serial defined → ((q : ℕ) → new q ≡ cond (nat_eq serial q) (Some defined) (old q)) → Knows objects new
+known_more objects old new serial defined knows here updates q =
+    subst (λ (o : Option Defined). IfSome o (IsKnown objects q)) (sym (updates q)) (by (serial == q) refl)
+  where
+    by : (same : Bool) → (serial == q) ≡ same → IfSome (cond same (Some defined) (old q)) (IsKnown objects q)
+    by true same = subst (λ n. IsKnown objects n defined) (eqb-true serial q same) here
+    by false other = knows q

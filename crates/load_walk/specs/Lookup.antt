@@ -1,13 +1,12 @@
 -- What the check of versions looks up by name.
-use Rattle.std.specs.Prelude.{◌≡◌, ℕ, ◌==◌, ◌||◌, Bool, true, List, [], ◌∷◌, Option, Some, None, find, position}
+use Rattle.std.specs.Prelude.{◌≡◌, ℕ, ◌==◌, ◌||◌, Bool, true, List, Option, Some, None, IfSome, find, position}
 use Rattle.std.specs.Global.{Vec}
-use Rattle.std.specs.List.{list_any, AllByRecursion}
+use Rattle.std.specs.List.{list_any}
 use Rattle.std.specs.Map.{lookup}
 use Rattle.std.specs.Str.{bytes_eq}
 use Rattle.ld_base.specs.declared.linking.Loaded.{Loaded}
 use Rattle.scope_rule.specs.Needed.{defines_version}
 use Rattle.load_walk.specs.declared.lookup.Defined.{Defined}
-use Rattle.load_walk.specs.declared.lookup.Definer.{Definer}
 use Rattle.load_walk.specs.declared.lookup.Places.{Places}
 
 -- one of the names is spelled so
@@ -30,9 +29,9 @@ has defined version = defined.every || named defined.names.keys version
 abbrev pub defined_at : List Loaded → ℕ → List ℕ → Bool
 defined_at objects serial version = elim (find (λ d. d.serial == serial) objects) [ Some d ↦ defines_version d.object version | None ↦ true ]
 
--- what is known of an object's versions is so
-abbrev pub IsKnown : List Loaded → Definer → Type 0
-IsKnown objects d = (version : List ℕ) → has d.defined version ≡ defined_at objects d.serial version
+-- what is known of the versions of the object with a serial is so
+abbrev pub IsKnown : List Loaded → ℕ → Defined → Type 0
+IsKnown objects serial defined = (version : List ℕ) → has defined version ≡ defined_at objects serial version
 
-abbrev pub Knows : List Loaded → List Definer → Type 0
-Knows objects known = AllByRecursion (IsKnown objects) known
+abbrev pub Knows : List Loaded → (ℕ → Option Defined) → Type 0
+Knows objects known = (serial : ℕ) → IfSome (known serial) (IsKnown objects serial)

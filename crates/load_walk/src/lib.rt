@@ -15,6 +15,7 @@
 #![tactic(auto)]
 
 mod ask;
+mod definers;
 mod driver;
 mod finding;
 mod format;

@@ -7,7 +7,7 @@ ghost use Rattle.scope_rule.specs.Needed.{defines, defines_version};
 ghost use Rattle.load_walk.specs.Lookup.{named, place_of, has, ArePlacesOf};
 
 use indexmap::{IndexMap, IndexSet};
-use ld_base::{Name, Object, Serial, Verdef};
+use ld_base::{Name, Object, Verdef};
 use std::alloc::{AllocError, Global};
 
 /// The first place of each name of a list.
@@ -58,13 +58,6 @@ fn add_place(
 pub struct Defined {
     every: bool,
     names: IndexSet<Vec<u8>>,
-}
-
-/// An object in which versions were looked up.
-#[derive(Drop)]
-pub struct Definer {
-    pub serial: Serial,
-    pub defined: Defined,
 }
 
 impl Defined {

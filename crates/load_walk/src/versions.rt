@@ -1,13 +1,14 @@
 //! Whether the versions that new objects need are there.
 
-ghost use Rattle.std.specs.Prelude.{◌≡◌, ◌==◌, ℕ, List, find, IfOk, OnOk};
+ghost use Rattle.std.specs.Prelude.{◌≡◌, IfOk};
 ghost use Rattle.std.specs.Option.{option_copied};
 ghost use Rattle.scope_rule.specs.Seen.{seen};
 ghost use Rattle.scope_rule.specs.Needed.{is_weak_need, provider, lacks_version, first_lack, missing_version};
-ghost use Rattle.load_walk.specs.Lookup.{has, defined_at, ArePlacesOf, Knows};
+ghost use Rattle.load_walk.specs.Lookup.{ArePlacesOf};
 
-use crate::lookup::{Defined, Definer, Places};
-use ld_base::{DlFault, Loaded, Name, Sequence, Serial, Verneed};
+use crate::definers::Definers;
+use crate::lookup::Places;
+use ld_base::{DlFault, Loaded, Name, Serial, Verneed};
 use scope_rule::View;
 use std::alloc::{AllocError, Global};
 
@@ -33,60 +34,17 @@ fn provider(object: &Loaded, places: &Places, file: &[u8]) -> Option<Serial>
     }
 }
 
-/// The versions that the object with a serial defines. Where there is no such object, none is
-/// lacking.
-fn defined_at(alloc: Global, view: &View, serial: Serial) -> Result<Defined, AllocError>
-    ensures { IfOk result (λ defined. (version : List ℕ) → has defined version ≡ defined_at (seen view.now).objects serial version) }
-{
-    match view.object(serial) {
-        Some(definer) => Defined::of(alloc, &definer.object),
-        None => Ok(Defined::every(alloc)),
-    }
-}
-
-/// What is known of the object with a serial.
-fn known_definer(known: &[Definer], serial: Serial) -> Option<&Definer>
-    ensures { option_copied result ≡ find (λ definer. definer.serial == serial) known.now }
-{
-    known.iter().find(|definer| definer.serial == serial)
-}
-
-/// Whether the object with a serial defines a version. Its versions are known from then on, since a
-/// scan of them for each need takes the product of two counts that a file chooses.
-#[tactic(auto, using(crate::proofs::Lookups::known_more))]
-fn is_defined_at(
-    alloc: Global,
-    view: &View,
-    known: &mut Sequence<Definer>,
-    serial: Serial,
-    version: &[u8],
-) -> Result<bool, AllocError>
-    requires { Knows (seen view.now).objects known.old }
-    ensures knows { OnOk result (Knows (seen view.now).objects known.new) }
-    ensures answer { IfOk result (λ answer. answer ≡ defined_at (seen view.now).objects serial version.now) }
-{
-    if let Some(definer) = known_definer(known.as_slice(), serial) {
-        return Ok(definer.defined.has(version));
-    }
-    let defined = defined_at(alloc, view, serial)?;
-    let answer = defined.has(version);
-    known.push(Definer { serial, defined })?;
-    Ok(answer)
-}
-
 /// Whether a version that an object needs isn't there.
 fn lacks_version(
     alloc: Global,
-    view: &View,
-    known: &mut Sequence<Definer>,
+    definers: &mut Definers,
     object: &Loaded,
     places: &Places,
     need: &Verneed,
 ) -> Result<bool, AllocError>
-    requires known { Knows (seen view.now).objects known.old }
-    requires places { ArePlacesOf object.now.object.needed places.now }
-    ensures knows { OnOk result (Knows (seen view.now).objects known.new) }
-    ensures answer { IfOk result (λ lacks. lacks ≡ lacks_version (seen view.now).objects object.now need.now) }
+    requires { ArePlacesOf object.now.object.needed places.now }
+    ensures answer { IfOk result (λ lacks. lacks ≡ lacks_version definers.old object.now need.now) }
+    ensures same { definers.new ≡ definers.old }
 {
     if is_weak_need(need) {
         return Ok(false);
@@ -94,25 +52,22 @@ fn lacks_version(
     let Some(serial) = provider(object, places, need.file.as_bytes()) else {
         return Ok(false);
     };
-    let version = need.name.as_bytes();
-    Ok(!is_defined_at(alloc, view, known, serial, version)?)
+    Ok(!definers.defines(alloc, serial, need.name.as_bytes())?)
 }
 
 /// The first version that an object needs and that isn't there, by the places of its names.
 fn lack_among<'a>(
     alloc: Global,
-    view: &View,
-    known: &mut Sequence<Definer>,
+    definers: &mut Definers,
     object: &'a Loaded,
     places: &Places,
 ) -> Result<Option<&'a Verneed>, AllocError>
-    requires known { Knows (seen view.now).objects known.old }
-    requires places { ArePlacesOf object.now.object.needed places.now }
-    ensures knows { OnOk result (Knows (seen view.now).objects known.new) }
-    ensures lack { IfOk result (λ lack. option_copied lack ≡ first_lack (seen view.now).objects object.now) }
+    requires { ArePlacesOf object.now.object.needed places.now }
+    ensures lack { IfOk result (λ lack. option_copied lack ≡ first_lack definers.old object.now) }
+    ensures same { definers.new ≡ definers.old }
 {
     for need in object.object.verneeds.as_slice() {
-        if lacks_version(alloc, view, known, object, places, need)? {
+        if lacks_version(alloc, definers, object, places, need)? {
             return Ok(Some(need));
         }
     }
@@ -122,16 +77,14 @@ fn lack_among<'a>(
 /// The first version that an object needs and that isn't there.
 fn first_lack<'a>(
     alloc: Global,
-    view: &View,
-    known: &mut Sequence<Definer>,
+    definers: &mut Definers,
     object: &'a Loaded,
 ) -> Result<Option<&'a Verneed>, AllocError>
-    requires { Knows (seen view.now).objects known.old }
-    ensures knows { OnOk result (Knows (seen view.now).objects known.new) }
-    ensures lack { IfOk result (λ lack. option_copied lack ≡ first_lack (seen view.now).objects object.now) }
+    ensures lack { IfOk result (λ lack. option_copied lack ≡ first_lack definers.old object.now) }
+    ensures same { definers.new ≡ definers.old }
 {
     let places = Places::of(alloc, object.object.needed.as_slice())?;
-    lack_among(alloc, view, known, object, &places)
+    lack_among(alloc, definers, object, &places)
 }
 
 /// The refusal of an object that needs a version that isn't there.
@@ -144,18 +97,16 @@ fn version_fault(alloc: Global, object: &Loaded, need: &Verneed) -> Result<DlFau
     Ok(DlFault::MissingVersion(path, file, name))
 }
 
-/// The first refusal of new objects, in load order, from what is known of versions.
+/// The first refusal of new objects, in load order, from what is known of the objects of their namespace.
 fn first_fault(
     alloc: Global,
-    view: &View,
-    known: &mut Sequence<Definer>,
+    definers: &mut Definers,
     added: &[Loaded],
 ) -> Result<Option<DlFault>, AllocError>
-    requires { Knows (seen view.now).objects known.old }
-    ensures { IfOk result (λ fault. fault ≡ missing_version (seen view.now).objects added.now) }
+    ensures { IfOk result (λ fault. fault ≡ missing_version definers.old added.now) }
 {
     for object in added {
-        if let Some(need) = first_lack(alloc, view, known, object)? {
+        if let Some(need) = first_lack(alloc, definers, object)? {
             return Ok(Some(version_fault(alloc, object, need)?));
         }
     }
@@ -170,6 +121,6 @@ pub(crate) fn missing_version(
 ) -> Result<Option<DlFault>, AllocError>
     ensures { IfOk result (λ fault. fault ≡ missing_version (seen view.now).objects added.now) }
 {
-    let mut known = Sequence::new(alloc);
-    first_fault(alloc, view, &mut known, added)
+    let mut definers = Definers::of(alloc, view)?;
+    first_fault(alloc, &mut definers, added)
 }
