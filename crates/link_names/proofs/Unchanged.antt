@@ -3,7 +3,7 @@ use Rattle.std.proofs.Common.{Result, Ok, Err, ◌≡◌, ℕ, zero, suc, Bool, 
 use Rattle.std.specs.Prelude.{OnErr, OnOk, ◌==◌, ◌||◌, not, find, filter, flat_map, option_map, slice_get, Option, Some, None}
 use Rattle.std.specs.List.{Contains, list_all, list_any}
 use Rattle.std.proofs.lemmas.Bool.{and_parts, eqb-true, true≢false}
-use Rattle.std.proofs.lemmas.Option.{IfSome_then, slice_get-map}
+use Rattle.std.proofs.lemmas.Option.{slice_get-map}
 use Rattle.close_mark.specs.ClosingPlans.Plans.{closed_by}
 use Rattle.ld_base.specs.declared.linking.Loaded.{Loaded}
 use Rattle.history_state.specs.Lemmas.Lists.{at_in, first_or_later, found_in, in_any}
@@ -21,11 +21,8 @@ use Rattle.scope_rule.specs.Scope.{opened_with, scope, whole_scope}
 use Rattle.scope_rule.specs.Seen.{Seen, seen_in}
 use Rattle.scope_rule.specs.declared.namespace.Namespace.{Namespace}
 use Rattle.scope_rule.specs.declared.namespace.OpenRec.{OpenRec}
-use Rattle.scope_lists.specs.Holders.{AreHolders, HoldsAt}
 use Rattle.scope_lists.specs.Lists.{AreListsOf}
-use Rattle.scope_lists.specs.declared.holders.Held.{Held}
 use Rattle.scope_lists.specs.declared.lists.SearchLists.{SearchLists}
-use Rattle.scope_lists.specs.declared.searched.Searched.{Searched}
 use Rattle.history_state.specs.Lemmas.Dying.{lowered_root}
 
 -- ---- lists tell of the roots of openings alone
@@ -79,23 +76,6 @@ module _ (s : Seen) (opens : List OpenRec) (same : map root_of opens ≡ map roo
   unfolding scope
   same_scope o = ap (filter (λ x. is_dying o || not (is_dying_at s x))) (same_whole o)
 
-  holds_then : (list : List Searched) (hash place : ℕ) → HoldsAt s list hash place → HoldsAt Then list hash place
-  holds_then list hash place h = record { object = h.object; stands = h.stands; defines = h.defines }
-
-  held_before : (list : List Searched) (hash place : ℕ) → HoldsAt Then list hash place → HoldsAt s list hash place
-  held_before list hash place h = record { object = h.object; stands = h.stands; defines = h.defines }
-
-  same_holders : (list : List Searched) (held : List Held) → AreHolders s list held → AreHolders Then list held
-  same_holders list held are = record {
-    few = are.few;
-    others = are.others;
-    each = λ h. (
-      λ here. let was = (are.each h).0 here in (was.0, holds_then list h.hash h.place was.1),
-      λ one. (are.each h).1 (one.0, held_before list h.hash h.place one.1),
-    );
-    sorted = are.sorted;
-  }
-
   pub roots_stay : (lists : SearchLists) → AreListsOf s lists → AreListsOf Then lists
   roots_stay lists are = record {
     links = record { places = are.links.places; found = are.links.found; all = are.links.all };
@@ -103,7 +83,7 @@ module _ (s : Seen) (opens : List OpenRec) (same : map root_of opens ≡ map roo
     orders = are.orders;
     scopes = record {
       global = are.scopes.global;
-      holders = IfSome_then lists.scopes.holders are.scopes.holders (λ held is. same_holders lists.scopes.global.items held is);
+      definers = are.scopes.definers;
       each = λ place o found at has. (let was = are.scopes.each place o found at has in record { alike = λ pick. was.alike pick ∙ ap (first_with pick) (sym (same_scope o)); placed = was.placed });
     };
   }

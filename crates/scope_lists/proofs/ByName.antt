@@ -10,17 +10,18 @@ use Rattle.std.specs.Ordering.{is_eq, is_gt, is_lt, nat_cmp, ordering_index, ord
 use Rattle.std.specs.Str.{bytes_eq}
 use Rattle.std.specs.declared.cmp.Ordering.{Ordering}
 use Rattle.std.specs.declared.cmp.Ordering.TheVariants.{Less, Equal, Greater}
+use Rattle.std.proofs.Math.Bool.{and_assoc, and_comm, and-true}
 use Rattle.std.proofs.lemmas.Bool.{cases_Bool}
 use Rattle.std.proofs.lemmas.Cmp.{alike_right, lists_total, nat_list_cmp_total}
 use Rattle.std.proofs.lemmas.List.{append-nil, get_or-take, get_or-drop, length-take-le, length-drop, take-append-drop}
-use Rattle.std.proofs.lemmas.List.Elements.{All-cons, All-head, All-nil, All-tail, All-weaker, filter-append}
+use Rattle.std.proofs.lemmas.List.Elements.{All-cons, All-head, All-nil, All-tail, All-weaker, filter_agree, filter-append}
 use Rattle.std.proofs.lemmas.List.Sorted.{All-permutation, IsNonDecreasingBy-drop, searchable_from_sorted}
 use Rattle.ld_base.specs.Pick.{has_version, is_named, is_offer}
 use Rattle.ld_base.specs.Symbol.{is_visible_definition, version_index}
 use Rattle.ld_base.specs.Version.{version_name}
 use Rattle.ld_base.specs.declared.object.Object.{Object}
 use Rattle.ld_base.specs.declared.object.Symbol.{Symbol}
-use Rattle.scope_lists.specs.NameOrder.{IsOrder, by_name, by_version, exported, exports, global_offers_of, has_key, is_global_at, is_offered, name_at, offers_of, version_at, versions_of}
+use Rattle.scope_lists.specs.NameOrder.{IsOrder, by_name, by_version, exported, exports, has_key, is_offered, is_unversioned_at, name_at, offers_of, unversioned_of, version_at, versions_of}
 
 -- ---- what passes a test
 
@@ -34,10 +35,6 @@ filter_none p (x ∷ xs) all = rw (All-head (Gives p false) x xs all) (filter_no
 filter_all : (p : ℕ → Bool) (xs : List ℕ) → All (Gives p true) xs → filter p xs ≡ xs
 filter_all p [] all = refl
 filter_all p (x ∷ xs) all = rw (All-head (Gives p true) x xs all) (ap (λ (ys : List ℕ). x ∷ ys) (filter_all p xs (All-tail (Gives p true) x xs all)))
-
-filter_same : (p q : ℕ → Bool) → ((x : ℕ) → p x ≡ q x) → (xs : List ℕ) → filter p xs ≡ filter q xs
-filter_same p q same [] = refl
-filter_same p q same (x ∷ xs) = ap (λ b. cond b (x ∷ filter p xs) (filter p xs)) (same x) ∙ ap (λ (l : List ℕ). cond (q x) (x ∷ l) l) (filter_same p q same xs)
 
 filter_twice : (p q : ℕ → Bool) (xs : List ℕ) → filter p (filter q xs) ≡ filter (λ x. q x && p x) xs
 filter_twice p q [] = refl
@@ -194,7 +191,7 @@ module _ (key : ℕ → Key) where
         | inr some ↦
             let x : ℕ = some.0 in
             let same : (k : ℕ) → (not (precedes x k) && not (precedes k x)) ≡ has_key key sought k = ties_keyed sought x some.1 in
-            sym (filter_same (λ k. not (precedes x k) && not (precedes k x)) (has_key key sought) same ys) ∙ stable x ∙ filter_same (λ k. not (precedes x k) && not (precedes k x)) (has_key key sought) same xs
+            sym (filter_agree (λ k. not (precedes x k) && not (precedes k x)) (has_key key sought) same ys) ∙ stable x ∙ filter_agree (λ k. not (precedes x k) && not (precedes k x)) (has_key key sought) same xs
       ]
 
   pub ordered : (xs ys : List ℕ) → IsPermutation xs ys → IsSortedBy precedes ys → IsStableBy precedes xs ys → IsOrder key xs ys
@@ -203,11 +200,7 @@ module _ (key : ℕ → Key) where
 -- ---- what has a name, and a name and a version
 
 is_name : (one name : List ℕ) → is_eq (compared (one ∷ []) (name ∷ [])) ≡ bytes_eq one name
-is_name one name = sym (tied_then (slice_cmp nat_cmp one name) Equal) ∙ with_true (is_eq (slice_cmp nat_cmp one name)) ∙ sym (texts_ties one name)
-  where
-    with_true : (b : Bool) → (b && true) ≡ b
-    with_true true = refl
-    with_true false = refl
+is_name one name = sym (tied_then (slice_cmp nat_cmp one name) Equal) ∙ and-true (is_eq (slice_cmp nat_cmp one name)) ∙ sym (texts_ties one name)
 
 is_both : (one name version : List ℕ) (other : Option (List ℕ)) → is_eq (compared (one ∷ option_to_list other) (name ∷ version ∷ [])) ≡ (bytes_eq one name && is_named version other)
 is_both one name version None = sym (tied_then (slice_cmp nat_cmp one name) Less) ∙ ap (λ b. b && false) (sym (texts_ties one name))
@@ -223,7 +216,7 @@ module _ (o : Object) (name : List ℕ) where
   of_key : (key : ℕ → Key) (sought : Key) (test : Symbol → Bool) → ((k : ℕ) → (exports o (is_offered o) k && has_key key sought k) ≡ exports o test k)
       → filter (has_key key sought) (exported o (is_offered o)) ≡ exported o test
   of_key key sought test same =
-      filter_twice (has_key key sought) (exports o (is_offered o)) Everything ∙ filter_same (λ k. exports o (is_offered o) k && has_key key sought k) (exports o test) same Everything
+      filter_twice (has_key key sought) (exports o (is_offered o)) Everything ∙ filter_agree (λ k. exports o (is_offered o) k && has_key key sought k) (exports o test) same Everything
 
   nothing : (l e : Bool) → ((l && false) && e) ≡ (l && false)
   nothing true e = refl
@@ -264,24 +257,14 @@ module _ (o : Object) (name : List ℕ) where
       by k None = nothing (nat_le o.first_exported k) (bytes_eq [] name && false)
       by k (Some s) = moved_both (nat_le o.first_exported k) (is_visible_definition s) (bytes_eq s.name name) (not o.has_versym || not (version_index s == 0)) (has_version o version s)
 
-  pub global : filter (has_key (by_name o) (name ∷ [])) (filter (is_global_at o) (exported o (is_offered o))) ≡ global_offers_of o name
-  global =
+  pub unversioned : filter (has_key (by_name o) (name ∷ [])) (filter (is_unversioned_at o) (exported o (is_offered o))) ≡ unversioned_of o name
+  unversioned =
       let p : ℕ → Bool = has_key (by_name o) (name ∷ []) in
-      let q : ℕ → Bool = is_global_at o in
+      let q : ℕ → Bool = is_unversioned_at o in
       let all : List ℕ = exported o (is_offered o) in
-      filter_twice p q all ∙ filter_same (λ k. q k && p k) (λ k. p k && q k) (λ k. swapped (q k) (p k)) all ∙ sym (filter_twice q p all) ∙ ap (filter q) named
-      ∙ filter_twice q (exports o (is_offer o name)) Everything ∙ filter_same (λ k. exports o (is_offer o name) k && q k) (exports o (λ s. is_offer o name s && s.version == 1)) (λ k. by k (slice_get o.symbols k)) Everything
+      filter_twice p q all ∙ filter_agree (λ k. q k && p k) (λ k. p k && q k) (λ k. and_comm (q k) (p k)) all ∙ sym (filter_twice q p all) ∙ ap (filter q) named
+      ∙ filter_twice q (exports o (is_offer o name)) Everything ∙ filter_agree (λ k. exports o (is_offer o name) k && q k) (exports o (λ s. is_offer o name s && s.version == 1)) (λ k. by k (slice_get o.symbols k)) Everything
     where
-      swapped : (a b : Bool) → (a && b) ≡ (b && a)
-      swapped true true = refl
-      swapped true false = refl
-      swapped false true = refl
-      swapped false false = refl
-
-      joined : (a b c : Bool) → ((a && b) && c) ≡ (a && (b && c))
-      joined true b c = refl
-      joined false b c = refl
-
       by : (k : ℕ) (s : Option Symbol) → ((nat_le o.first_exported k && option_map_or (is_offer o name) s false) && option_map_or (λ (x : Symbol). x.version == 1) s false) ≡ (nat_le o.first_exported k && option_map_or (λ x. is_offer o name x && x.version == 1) s false)
       by k None = nothing (nat_le o.first_exported k) false
-      by k (Some s) = joined (nat_le o.first_exported k) (is_offer o name s) (s.version == 1)
+      by k (Some s) = and_assoc (nat_le o.first_exported k) (is_offer o name s) (s.version == 1)

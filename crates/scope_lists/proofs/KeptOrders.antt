@@ -5,9 +5,8 @@ use Rattle.std.specs.Map.{lookup}
 use Rattle.std.proofs.lemmas.Bool.{cases_Bool, eqb-true}
 use Rattle.ld_base.specs.declared.linking.Loaded.{Loaded}
 use Rattle.scope_rule.specs.Seen.{Seen}
-use Rattle.scope_lists.specs.NameOrder.{IsNameOrder}
+use Rattle.scope_lists.specs.NameOrder.{IsNameOrder, Orders}
 use Rattle.scope_lists.specs.NameOrders.{AreNameOrders, order_at}
-use Rattle.scope_lists.specs.declared.name_order.NameOrder.{NameOrder}
 use Rattle.scope_lists.specs.declared.name_orders.NameOrders.{NameOrders}
 
 -- none is made at first
@@ -15,7 +14,7 @@ pub no_orders : (s : Seen) (orders : NameOrders) → ((place : ℕ) → order_at
 no_orders s orders none place o order here has = absurd (let no : None ≡ Some order = sym (none place) ∙ has in cc no)
 
 -- one more
-pub one_order : (s : Seen) (old new : NameOrders) (k : ℕ) (o : Loaded) (one : NameOrder) → AreNameOrders s old → slice_get s.objects k ≡ Some o → IsNameOrder o.object one
+pub one_order : (s : Seen) (old new : NameOrders) (k : ℕ) (o : Loaded) (one : Orders) → AreNameOrders s old → slice_get s.objects k ≡ Some o → IsNameOrder o.object one
     → ((q : ℕ) → order_at new q ≡ cond (nat_eq k q) (Some one) (order_at old q)) → AreNameOrders s new
 one_order s old new k o one are there is updates q other order here has =
     elim (cases_Bool (nat_eq k q)) [

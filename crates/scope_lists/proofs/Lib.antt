@@ -1,8 +1,8 @@
 pub mod Apart
 pub mod ByName
 pub mod Covers
+pub mod Defining
 pub mod Ended
-pub mod Holding
 pub mod KeptOrders
 pub mod Orders
 pub mod Parts

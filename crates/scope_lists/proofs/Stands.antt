@@ -17,13 +17,13 @@ use Rattle.scope_rule.specs.Choose.{first_with}
 use Rattle.scope_rule.specs.Seen.{Seen}
 use Rattle.scope_rule.specs.declared.namespace.OpenRec.{OpenRec}
 use Rattle.scope_lists.specs.Brought.{brought_to}
-use Rattle.scope_lists.specs.Holders.{AreHolders}
+use Rattle.scope_lists.specs.Definers.{AreDefiners}
 use Rattle.scope_lists.specs.Kept.{ArePlaced, AreScopes, IsScope, KeepsAll, entry_in, entry_of, kept_at, kept_in}
 use Rattle.scope_lists.specs.Links.{found_once}
 use Rattle.scope_lists.specs.Lists.{AreListed, AreListsOf, ArePartsOf, IsListed, IsListedAt, IsSearched}
 use Rattle.scope_rule.specs.Places.{ArePlaces, place_in, place_of, serials, serials_of}
 use Rattle.scope_lists.specs.Searched.{at_place, in_parts, serials_in}
-use Rattle.scope_lists.specs.declared.holders.Held.{Held}
+use Rattle.scope_lists.specs.declared.definers.Definer.{Definer}
 use Rattle.scope_lists.specs.declared.kept.KeptScope.{KeptScope}
 use Rattle.scope_lists.specs.declared.kept.KeptScopes.{KeptScopes}
 use Rattle.scope_lists.specs.declared.lists.SearchLists.{SearchLists}
@@ -149,16 +149,16 @@ names_there objects names k o are here = ap (λ (ns : List (List (Option Version
 -- ---- scopes that are kept
 
 -- what is known of the same list is known still
-known_still : (s : Seen) (old new : KeptScopes) → AreScopes s old → new.global.items ≡ old.global.items → new.holders ≡ old.holders → IfSome new.holders (AreHolders s new.global.items)
+known_still : (s : Seen) (old new : KeptScopes) → AreScopes s old → new.global.items ≡ old.global.items → new.definers ≡ old.definers → IfSome new.definers (AreDefiners s.objects new.global.items)
 known_still s old new are same known =
-    subst (λ (g : List Searched). IfSome new.holders (AreHolders s g)) (sym same) (subst (λ (h : Option (List Held)). IfSome h (AreHolders s old.global.items)) (sym known) are.holders)
+    subst (λ (g : List Searched). IfSome new.definers (AreDefiners s.objects g)) (sym same) (subst (λ (d : Option (List Definer)). IfSome d (AreDefiners s.objects old.global.items)) (sym known) are.definers)
 
 -- one more is kept
-pub one_kept : (s : Seen) (old new : KeptScopes) (k : ℕ) (o : Loaded) (one : KeptScope) → AreScopes s old → new.global.items ≡ old.global.items → new.holders ≡ old.holders → slice_get s.objects k ≡ Some o → IsScope s old.global.items o one
+pub one_kept : (s : Seen) (old new : KeptScopes) (k : ℕ) (o : Loaded) (one : KeptScope) → AreScopes s old → new.global.items ≡ old.global.items → new.definers ≡ old.definers → slice_get s.objects k ≡ Some o → IsScope s old.global.items o one
     → ((q : ℕ) → kept_at new q ≡ cond (nat_eq k q) (Some one) (kept_at old q)) → AreScopes s new
 one_kept s old new k o one are same known there right updates = record {
   global = same ∙ are.global;
-  holders = known_still s old new are same known;
+  definers = known_still s old new are same known;
   each = λ q other found here has. subst (λ (g : List Searched). IsScope s g other found) (sym same) (by q other found here has);
 }
   where
@@ -175,10 +175,10 @@ one_kept s old new k o one are same known there right updates = record {
           | inr apart ↦ are.each q other found here (sym (updates q ∙ ap (λ b. cond b (Some one) (kept_at old q)) apart) ∙ has)
         ]
 
-pub unchanged_kept : (s : Seen) (old new : KeptScopes) → AreScopes s old → new.global.items ≡ old.global.items → new.holders ≡ old.holders → new.by_place.entries ≡ old.by_place.entries → AreScopes s new
+pub unchanged_kept : (s : Seen) (old new : KeptScopes) → AreScopes s old → new.global.items ≡ old.global.items → new.definers ≡ old.definers → new.by_place.entries ≡ old.by_place.entries → AreScopes s new
 unchanged_kept s old new are same known entries = record {
   global = same ∙ are.global;
-  holders = known_still s old new are same known;
+  definers = known_still s old new are same known;
   each = λ place o found here has. subst (λ (g : List Searched). IsScope s g o found) (sym same) (are.each place o found here (ap (lookup (nat_eq place)) (sym entries) ∙ has));
 }
 
@@ -209,7 +209,7 @@ entries_noted xs places are (y ∷ ys) =
 -- what is kept of an object are the parts of its scope
 pub kept_parts : (s : Seen) (lists : SearchLists) (k : ℕ) (o : Loaded) (parts : ScopeParts) → AreListsOf s lists → IsListedAt lists k → slice_get s.objects k ≡ Some o
     → ((found : KeptScope) → kept_at lists.scopes k ≡ Some found → in_parts parts ≡ kept_in lists.scopes.global.items found)
-    → (IfSome lists.scopes.holders (AreHolders s lists.scopes.global.items) → IfSome parts.holders (λ h. AreHolders s parts.global.now h.now)) → ArePartsOf s o parts
+    → (IfSome lists.scopes.definers (AreDefiners s.objects lists.scopes.global.items) → IfSome parts.definers (λ d. AreDefiners s.objects parts.global.now d.now)) → ArePartsOf s o parts
 kept_parts s lists k o parts are has here gives known = by (kept_at lists.scopes k) refl has
   where
     global : List Searched
@@ -222,15 +222,15 @@ kept_parts s lists k o parts are has here gives known = by (kept_at lists.scopes
         record {
           alike = λ pick. ap (λ (xs : List Searched). first_with pick (serials_in xs)) same ∙ one.alike pick;
           places = subst (AllByRecursion (IsSearched s)) (sym same) (all_searched s (kept_in global found) one.placed);
-          holders = known are.scopes.holders;
+          definers = known are.scopes.definers;
         }
     by None is some = absurd (cc some)
 
 -- none is kept at first
-pub none_kept : (s : Seen) (places : Places) (kept : KeptScopes) → ArePlaces (serials_of s) places → kept.global.items ≡ map (entry_of places) s.global → kept.holders ≡ None → ((place : ℕ) → kept_at kept place ≡ None) → AreScopes s kept
+pub none_kept : (s : Seen) (places : Places) (kept : KeptScopes) → ArePlaces (serials_of s) places → kept.global.items ≡ map (entry_of places) s.global → kept.definers ≡ None → ((place : ℕ) → kept_at kept place ≡ None) → AreScopes s kept
 none_kept s places kept are global unknown none = record {
   global = global ∙ entries_noted (serials_of s) places are s.global;
-  holders = subst (λ (h : Option (List Held)). IfSome h (AreHolders s kept.global.items)) (sym unknown) tt;
+  definers = subst (λ (d : Option (List Definer)). IfSome d (AreDefiners s.objects kept.global.items)) (sym unknown) tt;
   each = λ place o found here has. absurd (let no : None ≡ Some found = sym (none place) ∙ has in cc no);
 }
 

@@ -1,6 +1,7 @@
 -- Lists don't tell of the states of objects.
 use Rattle.std.proofs.Common.{◌≡◌, ℕ, zero, suc, Bool, true, false, cond, List, [], ◌∷◌, ◌++◌, length, map, refl, subst, sym, ap, ◌∙◌}
 use Rattle.std.specs.Prelude.{◌==◌, ◌||◌, not, filter, flat_map, option_map, slice_get, Option, Some, None}
+use Rattle.std.proofs.lemmas.List.Elements.{filter_agree}
 use Rattle.std.proofs.lemmas.Option.{IfSome_then, slice_get-map}
 use Rattle.ld_base.specs.declared.linking.Loaded.{Loaded}
 use Rattle.ld_base.specs.declared.linking.State.{State}
@@ -11,14 +12,14 @@ use Rattle.scope_rule.specs.Loading.{found_of, is_dying, is_dying_at, object_of,
 use Rattle.scope_rule.specs.Scope.{opened_with, scope, whole_scope}
 use Rattle.scope_rule.specs.Seen.{Seen}
 use Rattle.scope_rule.specs.declared.namespace.OpenRec.{OpenRec}
-use Rattle.scope_lists.specs.Holders.{object_of_entry}
+use Rattle.scope_lists.specs.Definers.{object_of_entry}
 use Rattle.scope_lists.specs.Kept.{ArePlaced, AreScopes, IsScope, entry_in, kept_at, kept_in}
 use Rattle.scope_lists.specs.Links.{found_once}
 use Rattle.scope_lists.specs.Lists.{AreListsOf, ChangesStateAlone}
 use Rattle.scope_lists.specs.NameOrder.{IsNameOrder}
 use Rattle.scope_lists.specs.NameOrders.{AreNameOrders}
 use Rattle.scope_rule.specs.Places.{place_in, serials}
-use Rattle.scope_lists.specs.Searched.{at_place}
+use Rattle.scope_lists.specs.Searched.{object_at}
 use Rattle.scope_lists.specs.declared.kept.KeptScope.{KeptScope}
 use Rattle.scope_lists.specs.declared.kept.KeptScopes.{KeptScopes}
 use Rattle.scope_lists.specs.declared.lists.SearchLists.{SearchLists}
@@ -26,17 +27,13 @@ use Rattle.scope_lists.specs.declared.name_orders.NameOrders.{NameOrders}
 use Rattle.scope_lists.specs.declared.searched.Searched.{Searched}
 use Rattle.scope_lists.specs.VersionPlaces.Places.{places_of}
 use Rattle.scope_lists.specs.declared.version_places.names.VersionPlace.{VersionPlace}
-use Rattle.scope_lists.proofs.Holding.{holders_stay}
+use Rattle.scope_lists.proofs.Defining.{definers_stay}
 
 -- ---- functions that are the same at each point
 
 flat_same : {X : Type 0} (f g : X → List ℕ) → ((x : X) → f x ≡ g x) → (xs : List X) → flat_map f xs ≡ flat_map g xs
 flat_same f g same [] = refl
 flat_same f g same (x ∷ xs) = ap (λ (l : List ℕ). l ++ flat_map f xs) (same x) ∙ ap (λ (l : List ℕ). g x ++ l) (flat_same f g same xs)
-
-filter_same : (p q : ℕ → Bool) → ((x : ℕ) → p x ≡ q x) → (xs : List ℕ) → filter p xs ≡ filter q xs
-filter_same p q same [] = refl
-filter_same p q same (x ∷ xs) = ap (λ b. cond b (x ∷ filter p xs) (filter p xs)) (same x) ∙ ap (λ (l : List ℕ). cond (q x) (x ∷ l) l) (filter_same p q same xs)
 
 order_same : (f g : ℕ → List ℕ) (first : List ℕ) → ((x : ℕ) → f x ≡ g x) → (n : ℕ) → order_to f first n ≡ order_to g first n
 order_same f g first same zero = refl
@@ -121,7 +118,7 @@ module _ (change : Loaded → Loaded) (alone : (o : Loaded) → ChangesStateAlon
     same_scope : (o : Loaded) → scope Then (change o) ≡ scope s o
     unfolding scope
     same_scope o =
-        filter_same (λ x. is_dying (change o) || not (is_dying_at Then x)) (λ x. is_dying o || not (is_dying_at s x))
+        filter_agree (λ x. is_dying (change o) || not (is_dying_at Then x)) (λ x. is_dying o || not (is_dying_at s x))
         (λ x. ap (λ b. b || not (is_dying_at Then x)) (alone o).closing ∙ ap (λ b. is_dying o || not b) (same_dying x)) (whole_scope Then (change o))
         ∙ ap (filter (λ x. is_dying o || not (is_dying_at s x))) (whole_same (change o) ∙ whole_changed o)
 
@@ -149,18 +146,18 @@ module _ (change : Loaded → Loaded) (alone : (o : Loaded) → ChangesStateAlon
     object_mapped None = refl
     object_mapped (Some o) = ap (λ (x : Loaded). Some x.object) (alone o).rest
 
-    same_object : (entry : Option Searched) → object_of_entry Then entry ≡ object_of_entry s entry
+    same_object : (entry : Option Searched) → object_of_entry Then.objects entry ≡ object_of_entry s.objects entry
     same_object None = refl
     same_object (Some entry) = by entry.place
       where
-        by : (place : Option ℕ) → object_on (at_place Then place) ≡ object_on (at_place s place)
+        by : (place : Option ℕ) → object_on (object_at Then.objects place) ≡ object_on (object_at s.objects place)
         by None = refl
         by (Some k) = ap object_on (slice_get-map change s.objects k) ∙ object_mapped (slice_get s.objects k)
 
     same_kept : (kept : KeptScopes) → AreScopes s kept → AreScopes Then kept
     same_kept kept are = record {
       global = are.global ∙ ap (λ (l : List ℕ). map (entry_in l) s.global) (sym (same_serials s.objects));
-      holders = IfSome_then kept.holders are.holders (λ held is. holders_stay s Then kept.global.items held (λ place. same_object (slice_get kept.global.items place)) is);
+      definers = IfSome_then kept.definers are.definers (λ definers is. definers_stay s.objects Then.objects kept.global.items definers (λ place. same_object (slice_get kept.global.items place)) is);
       each = λ place o found at has. by place o found at has (slice_get s.objects place) refl;
     }
       where

@@ -8,7 +8,7 @@ use Rattle.scope_rule.specs.Scope.{scope}
 use Rattle.scope_rule.specs.Seen.{Seen}
 use Rattle.scope_lists.specs.Brought.{brought_in}
 use Rattle.scope_lists.specs.Covering.{IsCovered}
-use Rattle.scope_lists.specs.Holders.{AreHolders}
+use Rattle.scope_lists.specs.Definers.{AreDefiners}
 use Rattle.scope_rule.specs.Places.{place_in, place_of, serials_of}
 use Rattle.scope_lists.specs.Searched.{FindsAlike, serials_in}
 use Rattle.scope_lists.specs.declared.kept.KeptScope.{KeptScope}
@@ -58,7 +58,7 @@ pub record IsScope (s : Seen) (global : List Searched) (o : Loaded) (found : Kep
 -- the global list is kept, which of its objects have definitions under a hash if that was made, and of objects their scopes
 pub record AreScopes (s : Seen) (kept : KeptScopes) : Type 0 where
   pub global : kept.global.items ≡ map (entry_in (serials_of s)) s.global
-  pub holders : IfSome kept.holders (AreHolders s kept.global.items)
+  pub definers : IfSome kept.definers (AreDefiners s.objects kept.global.items)
   pub each : (place : ℕ) (o : Loaded) (found : KeptScope) →
       slice_get s.objects place ≡ Some o → kept_at kept place ≡ Some found → IsScope s kept.global.items o found
 

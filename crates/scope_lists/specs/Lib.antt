@@ -1,7 +1,7 @@
 pub mod Asking
 pub mod Brought
 pub mod Covering
-pub mod Holders
+pub mod Definers
 pub mod Kept
 pub mod Links
 pub mod Lists

@@ -5,7 +5,7 @@ use Rattle.ld_base.specs.declared.linking.Loaded.{Loaded}
 use Rattle.scope_rule.specs.Loading.{is_dying, object_of}
 use Rattle.scope_rule.specs.Scope.{scope}
 use Rattle.scope_rule.specs.Seen.{Seen}
-use Rattle.scope_lists.specs.Holders.{AreHolders}
+use Rattle.scope_lists.specs.Definers.{AreDefiners}
 use Rattle.scope_lists.specs.Kept.{AreScopes, kept_at}
 use Rattle.scope_lists.specs.Links.{AreLinks}
 use Rattle.scope_lists.specs.NameOrders.{AreNameOrders}
@@ -45,7 +45,7 @@ IsSearched s x = at_place s x.place ≡ object_of s x.serial
 pub record ArePartsOf (s : Seen) (o : Loaded) (parts : ScopeParts) : Type 0 where
   pub alike : FindsAlike (serials_in (in_parts parts)) (scope s o)
   pub places : AllByRecursion (IsSearched s) (in_parts parts)
-  pub holders : IfSome parts.holders (λ h. AreHolders s parts.global.now h.now)
+  pub definers : IfSome parts.definers (λ d. AreDefiners s.objects parts.global.now d.now)
 
 -- an object but for its state; it is closing exactly where it was
 pub record ChangesStateAlone (before after : Loaded) : Type 0 where

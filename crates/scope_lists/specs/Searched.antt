@@ -10,10 +10,13 @@ use Rattle.scope_lists.specs.declared.searched.Searched.{Searched}
 abbrev pub serials_in : List Searched → List ℕ
 serials_in xs = map (λ x. x.serial) xs
 
--- the object at a place in load order, if any
+-- the object at a place among these, if any; in load order
+abbrev pub object_at : List Loaded → Option ℕ → Option Loaded
+object_at objects (Some place) = slice_get objects place
+object_at objects None = None
+
 abbrev pub at_place : Seen → Option ℕ → Option Loaded
-at_place s (Some place) = slice_get s.objects place
-at_place s None = None
+at_place s place = object_at s.objects place
 
 -- the objects of parts, one after another
 abbrev pub in_parts : ScopeParts → List Searched

@@ -1,12 +1,12 @@
 //! Scopes that are kept.
 
-ghost use Rattle.std.specs.Prelude.{◌≡◌, [], if◌then◌else◌, IfSome};
-ghost use Rattle.scope_rule.specs.Seen.{Seen};
-ghost use Rattle.scope_lists.specs.Holders.{AreHolders};
+ghost use Rattle.std.specs.Prelude.{◌≡◌, List, [], if◌then◌else◌, IfSome};
+ghost use Rattle.ld_base.specs.declared.linking.Loaded.{Loaded as LoadedObject};
+ghost use Rattle.scope_lists.specs.Definers.{AreDefiners};
 ghost use Rattle.scope_lists.specs.Kept.{kept_in};
 ghost use Rattle.scope_lists.specs.Searched.{in_parts};
 
-use crate::holders::{Holders, is_worth_it};
+use crate::definers::{Definers, is_worth_it};
 use crate::scoping::Scopes;
 use crate::searched::{ScopeParts, Searched};
 use ld_base::Loaded;
@@ -32,7 +32,7 @@ pub(crate) struct KeptScopes {
     /// The global list of the namespace.
     global: Vec<Searched>,
     /// Which objects of that list have definitions under a hash, if that was worth it.
-    holders: Option<Holders>,
+    definers: Option<Definers>,
     by_place: HashMap<usize, KeptScope>,
 }
 
@@ -46,28 +46,28 @@ fn global_of(global: &[Searched], is_searched: bool) -> &[Searched]
 /// The parts of a scope beside a global list, of which this is known if it is searched.
 fn parts_of<'a>(
     global: &'a [Searched],
-    holders: Option<&'a Holders>,
+    definers: Option<&'a Definers>,
     scope: &'a KeptScope,
 ) -> ScopeParts<'a>
     ensures parts { in_parts result ≡ kept_in global.now scope.now }
-    ensures holders { (s : Seen) → IfSome holders.entry (λ h. AreHolders s global.now h.now)
-        → IfSome result.holders (λ h. AreHolders s result.global.now h.now) }
+    ensures definers { (objects : List LoadedObject) → IfSome definers.entry (λ d. AreDefiners objects global.now d.now)
+        → IfSome result.definers (λ d. AreDefiners objects result.global.now d.now) }
 {
     ScopeParts {
         before: scope.before.as_slice(),
         global: global_of(global, scope.is_global),
-        holders: holders.filter(|_| scope.is_global),
+        definers: definers.filter(|_| scope.is_global),
         after: scope.after.as_slice(),
     }
 }
 
 impl KeptScopes {
-    ghost use Rattle.std.specs.Prelude.{◌≡◌, ◌<◌, ◌≤◌, ℕ, true, None, Some, slice_get, IfSome, IsSome, OnOk};
+    ghost use Rattle.std.specs.Prelude.{◌≡◌, ◌<◌, ◌≤◌, ℕ, List, true, None, Some, slice_get, IfSome, IsSome, OnOk};
     ghost use Rattle.std.specs.Option.{is_some};
     ghost use Rattle.ld_base.specs.declared.linking.Loaded.{Loaded as LoadedObject};
     ghost use Rattle.scope_rule.specs.Breadth.{has};
-    ghost use Rattle.scope_rule.specs.Seen.{Seen, seen};
-    ghost use Rattle.scope_lists.specs.Holders.{AreHolders};
+    ghost use Rattle.scope_rule.specs.Seen.{seen};
+    ghost use Rattle.scope_lists.specs.Definers.{AreDefiners};
     ghost use Rattle.scope_lists.specs.Kept.{AreScopes, KeepsAll, kept_at, kept_in};
     ghost use Rattle.scope_lists.specs.Searched.{in_parts};
     ghost use Rattle.scope_lists.specs.declared.kept.KeptScope.{KeptScope as Kept};
@@ -75,12 +75,12 @@ impl KeptScopes {
     /// None yet, of a namespace with this global list.
     pub(crate) fn new(alloc: Global, global: Vec<Searched>) -> Self
         ensures global { result.global.items ≡ global.items }
-        ensures holders { result.holders ≡ None }
+        ensures definers { result.definers ≡ None }
         ensures none { (place : ℕ) → kept_at result place ≡ None }
     {
         KeptScopes {
             global,
-            holders: None,
+            definers: None,
             by_place: HashMap::new(alloc),
         }
     }
@@ -95,18 +95,18 @@ impl KeptScopes {
     /// That of the object at a place. Where it isn't there, nothing is searched.
     pub(crate) fn get(&self, place: usize) -> ScopeParts
         ensures parts { (found : Kept) → kept_at self.now place ≡ Some found → in_parts result ≡ kept_in self.now.global.items found }
-        ensures holders { (s : Seen) → IfSome self.now.holders (AreHolders s self.now.global.items)
-            → IfSome result.holders (λ h. AreHolders s result.global.now h.now) }
+        ensures definers { (objects : List LoadedObject) → IfSome self.now.definers (AreDefiners objects self.now.global.items)
+            → IfSome result.definers (λ d. AreDefiners objects result.global.now d.now) }
     {
         match self.by_place.get(&place) {
-            Some(scope) => parts_of(self.global.as_slice(), self.holders.as_ref(), scope),
+            Some(scope) => parts_of(self.global.as_slice(), self.definers.as_ref(), scope),
             None => ScopeParts::none(),
         }
     }
 
     /// Makes known which objects of the global list have definitions under a hash, if that is worth it for so many
     /// searches.
-    pub(crate) fn add_holders(
+    pub(crate) fn add_definers(
         &mut self,
         alloc: Global,
         view: &View,
@@ -116,7 +116,7 @@ impl KeptScopes {
         ensures { AreScopes (seen view.now) self.new }
     {
         if is_worth_it(view, self.global.as_slice(), searches) {
-            self.holders = Holders::of(alloc, view, self.global.as_slice())?;
+            self.definers = Definers::of(alloc, view, self.global.as_slice())?;
         }
         Ok(())
     }

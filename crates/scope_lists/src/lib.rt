@@ -10,14 +10,14 @@
 //!
 //! `version_places` knows where the names of an object's versions stand, by their index. Of objects in whose hash
 //! tables walks are long (a file may put all its names into one bucket) the definitions are put in the order of
-//! their names and versions ([`NameOrder`]), if there are so many references that it pays. So is which objects of the
-//! global list have definitions under a hash ([`Holders`]): a search passes the others by.
+//! their names and versions ([`NameOrder`]), if there are so many references that it pays. Then it is noted, too, which
+//! objects of the global list have definitions under a hash ([`Definers`]): a search passes the others by.
 #![tactic(auto)]
 
 mod breadth_first;
 mod brought;
 mod covering;
-mod holders;
+mod definers;
 mod kept;
 mod law;
 mod links;
@@ -30,7 +30,7 @@ mod scoping;
 mod searched;
 mod version_places;
 
-pub use holders::Holders;
+pub use definers::Definers;
 pub use law::lists_stay;
 pub use lists::SearchLists;
 pub use name_order::NameOrder;

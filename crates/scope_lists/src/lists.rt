@@ -140,7 +140,7 @@ impl SearchLists {
     {
         self.orders.add_for(alloc, view, first)?;
         self.scopes
-            .add_holders(alloc, view, relocations_from(view, first))?;
+            .add_definers(alloc, view, relocations_from(view, first))?;
         let end = view.objects.len() + view.added.len();
         let owners = Owners::between(alloc, view, first, end)?;
         let scopes = Scopes::of(alloc, view, &self.links, owners)?;

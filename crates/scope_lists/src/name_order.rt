@@ -4,26 +4,35 @@
 pub(crate) mod keys;
 
 ghost use Rattle.std.specs.Prelude.{◌≡◌, ◌==◌, filter, IfOk};
-ghost use Rattle.scope_lists.specs.NameOrder.{exported, exports, is_global_at, is_offered};
+ghost use Rattle.scope_lists.specs.NameOrder.{exported, exports, is_offered, is_unversioned_at};
 
 use crate::name_order::keys::{Key, Keys};
 use crate::version_places::VersionNames;
 use ld_base::{Object, Symbol};
 use std::alloc::{AllocError, Global};
+use std::marker::Model;
 
-/// The version word of a definition that every reference with a version takes (VER_NDX_GLOBAL; Drepper, "ELF Symbol
-/// Versioning").
-const GLOBAL: u16 = 1;
+/// The version word of a definition without a version, which every reference with a version takes (VER_NDX_GLOBAL;
+/// Drepper, "ELF Symbol Versioning").
+const UNVERSIONED: u16 = 1;
 
 /// The definitions of an object in the order of their names. They tell the indexes of symbols and hold no name,
-/// so that they are asked together with the object.
+/// so that they are asked together with the object. Contracts see these indexes.
 #[derive(Drop)]
 pub struct NameOrder {
     by_name: Vec<u32>,
     /// Those of one name in the order of the names of their versions; none where the object has no versions.
     by_version: Vec<u32>,
-    /// Those that every reference with a version takes, by name; none where the object has no versions.
-    global: Vec<u32>,
+    /// Those without a version, by name; none where the object has no versions.
+    unversioned: Vec<u32>,
+}
+
+impl Model for NameOrder {
+    ghost use Rattle.scope_lists.specs.NameOrder.{Orders};
+
+    ghost Value = { Orders };
+
+    ghost view = { λ o. record { names = o.by_name.items; versions = o.by_version.items; unversioned = o.unversioned.items } };
 }
 
 /// Whether a symbol is a definition that other objects may ask for by its name.
@@ -52,29 +61,30 @@ fn offered(alloc: Global, object: &Object) -> Result<Vec<u32>, AllocError>
         .collect(alloc)
 }
 
-/// Whether the version word of the symbol at an index is that which every reference with a version takes.
-fn is_global_at(object: &Object, index: u32) -> bool
-    ensures { result ≡ is_global_at object.now index }
+/// Whether the symbol at an index has no version.
+fn is_unversioned_at(object: &Object, index: u32) -> bool
+    ensures { result ≡ is_unversioned_at object.now index }
 {
     match object.symbols.as_slice().get(index as usize) {
-        Some(symbol) => symbol.version == GLOBAL,
+        Some(symbol) => symbol.version == UNVERSIONED,
         None => false,
     }
 }
 
-/// The indexes of the definitions with that word, ascending.
-fn global(alloc: Global, object: &Object) -> Result<Vec<u32>, AllocError>
-    ensures { IfOk result (λ indexes. indexes.items ≡ filter (is_global_at object.now) (exported object.now (is_offered object.now))) }
+/// Those of these indexes whose symbols have none.
+fn unversioned(alloc: Global, object: &Object, offered: &[u32]) -> Result<Vec<u32>, AllocError>
+    ensures { IfOk result (λ indexes. indexes.items ≡ filter (is_unversioned_at object.now) offered.now) }
 {
-    (0..object.symbols.len())
-        .filter(|index| is_offered_at(object, *index))
-        .filter(|index| is_global_at(object, *index))
+    offered
+        .iter()
+        .copied()
+        .filter(|index| is_unversioned_at(object, *index))
         .collect(alloc)
 }
 
 impl NameOrder {
     ghost use Rattle.std.specs.Prelude.{◌≡◌, true, IfOk, IfSome};
-    ghost use Rattle.scope_lists.specs.NameOrder.{IsNameOrder, global_offers_of, offers_of, versions_of};
+    ghost use Rattle.scope_lists.specs.NameOrder.{IsNameOrder, offers_of, unversioned_of, versions_of};
     ghost use Rattle.scope_lists.specs.VersionPlaces.Places.{places_of};
 
     /// That of an object.
@@ -85,21 +95,21 @@ impl NameOrder {
     pub(crate) fn of(alloc: Global, object: &Object) -> Result<Self, AllocError>
         ensures { IfOk result (IsNameOrder object.now) }
     {
-        let by_name = Keys::Names(object).order(offered(alloc, object)?)?;
+        let offered = offered(alloc, object)?;
         if !object.has_versym {
             return Ok(NameOrder {
-                by_name,
+                by_name: Keys::Names(object).order(offered)?,
                 by_version: Vec::new(alloc),
-                global: Vec::new(alloc),
+                unversioned: Vec::new(alloc),
             });
         }
         let names = VersionNames::of(alloc, object)?;
-        let by_version = Keys::versions(object, &names).order(offered(alloc, object)?)?;
-        let global = Keys::Names(object).order(global(alloc, object)?)?;
+        let by_name = Vec::from_slice(alloc, offered.as_slice())?;
+        let unversioned = unversioned(alloc, object, offered.as_slice())?;
         Ok(NameOrder {
-            by_name,
-            by_version,
-            global,
+            by_name: Keys::Names(object).order(by_name)?,
+            by_version: Keys::versions(object, &names).order(offered)?,
+            unversioned: Keys::Names(object).order(unversioned)?,
         })
     }
 
@@ -136,16 +146,16 @@ impl NameOrder {
         Keys::Versions(object, names).run(self.by_version.as_slice(), &key)
     }
 
-    /// The same of those that every reference with a version takes: their version word is 1.
-    pub fn global_offers(&self, object: &Object, name: &[u8]) -> &[u32]
+    /// The same of those without a version, which every reference with a version takes: their version word is 1.
+    pub fn unversioned_offers(&self, object: &Object, name: &[u8]) -> &[u32]
         requires versions { object.now.has_versym ≡ true }
         requires order { IsNameOrder object.now self.now }
-        ensures { result.now ≡ global_offers_of object.now name.now }
+        ensures { result.now ≡ unversioned_of object.now name.now }
     {
         let key = Key {
             name,
             version: None,
         };
-        Keys::Names(object).run(self.global.as_slice(), &key)
+        Keys::Names(object).run(self.unversioned.as_slice(), &key)
     }
 }

@@ -3,7 +3,7 @@
 ghost use Rattle.std.specs.Prelude.{◌≡◌, map, IfOk};
 ghost use Rattle.scope_lists.specs.Kept.{entry_of};
 
-use crate::holders::Holders;
+use crate::definers::Definers;
 use ld_base::Serial;
 use scope_rule::Places;
 use std::alloc::{AllocError, Global};
@@ -23,7 +23,7 @@ pub struct ScopeParts<'a> {
     /// The global list; empty where the object doesn't see all of it.
     pub global: &'a [Searched],
     /// Which objects of that list have definitions under a hash, where this was made.
-    pub holders: Option<&'a Holders>,
+    pub definers: Option<&'a Definers>,
     /// What comes behind it.
     pub after: &'a [Searched],
 }
@@ -57,12 +57,12 @@ impl<'a> ScopeParts<'a> {
 
     /// Those in which nothing is searched.
     pub(crate) fn none() -> Self
-        ensures { result.holders ≡ None }
+        ensures { result.definers ≡ None }
     {
         ScopeParts {
             before: &[],
             global: &[],
-            holders: None,
+            definers: None,
             after: &[],
         }
     }

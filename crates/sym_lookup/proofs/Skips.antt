@@ -1,6 +1,6 @@
 -- Objects that have no definition under the hash of a name: what a search of a list skips.
 use Rattle.std.proofs.Common.{◌≡◌, ◌↔◌, ◌∙◌, ap, sym, subst, ℕ, zero, suc, ◌+◌, ◌<◌, ◌≤◌, Bool, true, false, cond, inl, inr, List, [], ◌∷◌, length, drop, get_or, refl, arith, le-leb}
-use Rattle.std.specs.Prelude.{◌==◌, ◌&&◌, ◌||◌, not, nat_le, option_map, IfSome, Option, Some, None}
+use Rattle.std.specs.Prelude.{◌==◌, ◌&&◌, ◌||◌, not, nat_le, option_map, Option, Some, None}
 use Rattle.std.specs.List.{AllByRecursion, slice_get}
 use Rattle.std.specs.Str.{bytes_eq}
 use Rattle.std.proofs.lemmas.Bool.{and_from, and_parts}
@@ -18,11 +18,11 @@ use Rattle.sym_hash.specs.Hash.{gnu_hash}
 use Rattle.scope_rule.specs.Choose.{first_with, pick_at}
 use Rattle.scope_rule.specs.Loading.{object_of}
 use Rattle.scope_rule.specs.Seen.{Seen}
-use Rattle.scope_lists.specs.Holders.{AreHolders, Defines, HoldsAt, IsNext, object_of_entry}
+use Rattle.scope_lists.specs.Definers.{AreDefiners, Defines, DefinesAt, IsNextDefiner, object_of_entry}
 use Rattle.scope_lists.specs.Lists.{IsSearched}
 use Rattle.scope_lists.specs.NameOrder.{is_offered}
 use Rattle.scope_lists.specs.Searched.{serials_in}
-use Rattle.scope_lists.specs.declared.holders.Held.{Held}
+use Rattle.scope_lists.specs.declared.definers.Definer.{Definer}
 use Rattle.scope_lists.specs.declared.searched.Searched.{Searched}
 use Rattle.sym_lookup.proofs.Searches.{first_none, first_some}
 use Rattle.sym_lookup.specs.Looking.{outside}
@@ -39,12 +39,7 @@ module _ (o : Object) (name : List ℕ) (w : Want) where
       let visible = and_parts (is_visible_definition s) (bytes_eq s.name name) named.0 in
       let same : s.name ≡ name = (bytes_eq-Decides s.name name).0 visible.1 in
       let passes : is_offered o s ≡ true = and_from (is_visible_definition s) (not o.has_versym || not (version_index s == 0)) visible.0 named.1 in
-      record {
-        index = k;
-        within = slice_get_within o.symbols k s at;
-        exported = rw at (and_from (nat_le o.first_exported k) (is_offered o s) (le-leb o.first_exported k from) passes);
-        hashed = rw at (ap gnu_hash same);
-      }
+      (k, record { exported = rw at (and_from (nat_le o.first_exported k) (is_offered o s) (le-leb o.first_exported k from) passes); hashed = rw at (ap gnu_hash same) })
 
   taken_defines : (k : ℕ) → Takes o name w k → Defines o (gnu_hash name)
   taken_defines k (inl ((from, s, at, fit), least)) = defines k (from, s, at, (and_parts (is_offer o name s) (not o.has_versym || is_wanted o w s) fit).0)
@@ -68,7 +63,7 @@ module _ (name : List ℕ) (w : Want) where
 
 module _ (law : Law) (s : Seen) (name : List ℕ) (w : Want) where
   -- an entry whose object has none
-  none_there : (x : Searched) → (x.serial == 0) ≡ false → IsSearched s x → ((o : Object) → object_of_entry s (Some x) ≡ Some o → Defines o (gnu_hash name) → ⊥) → pick_at s name w x.serial ≡ None
+  none_there : (x : Searched) → (x.serial == 0) ≡ false → IsSearched s x → ((o : Object) → object_of_entry s.objects (Some x) ≡ Some o → Defines o (gnu_hash name) → ⊥) → pick_at s name w x.serial ≡ None
   unfolding pick_at
   none_there x other is none =
       rw other (none_on name w (object_of s x.serial) (λ o there. none_taken o.object name w law (none o.object (ap (option_map (λ (y : Loaded). y.object)) (is ∙ there)))))
@@ -96,21 +91,21 @@ module _ (law : Law) (s : Seen) (name : List ℕ) (w : Want) where
     skipped (x ∷ xs) (suc from) zero le none = absurd (omega arith)
     skipped (x ∷ xs) (suc from) (suc next) le none = skipped xs from next (omega arith) (λ place y low high. none (suc place) y (omega arith) (omega arith))
 
-    module _ (list : List Searched) (held : List Held) (from : ℕ) (are : AreHolders s list held) (searched : AllByRecursion (IsSearched s) list) where
-      -- an entry at which none is held
-      not_held : (place : ℕ) (x : Searched) → slice_get list place ≡ Some x → (HoldsAt s list (gnu_hash name) place → ⊥) → asked x.serial ≡ None
-      not_held place x here none =
+    module _ (list : List Searched) (definers : List Definer) (from hash : ℕ) (are : AreDefiners s.objects list definers) (searched : AllByRecursion (IsSearched s) list) (hashed : hash ≡ gnu_hash name) where
+      -- an entry whose object has no definition under the hash
+      passed_by : (place : ℕ) (x : Searched) → slice_get list place ≡ Some x → (DefinesAt s.objects list hash place → ⊥) → asked x.serial ≡ None
+      passed_by place x here none =
           let lt = slice_get_within list place x here in
           let at : get_or list place x ≡ x = get_or_from_slice_get list place x x here in
           let other : (x.serial == 0) ≡ false = rw at at (are.others place x lt) in
           let is : IsSearched s x = subst (IsSearched s) at (All-from_recursion (IsSearched s) list searched place x lt) in
-          left_out x.serial (none_there x other is (λ o stands defined. none (record { object = o; stands = ap (object_of_entry s) here ∙ stands; defines = defined })))
+          left_out x.serial (none_there x other is (λ o stands defined. none (record { object = o; stands = ap (object_of_entry s.objects) here ∙ stands; defines = subst (Defines o) (sym hashed) defined })))
 
-      pub skipped_to : (next : ℕ) → IsNext s list (gnu_hash name) from (Some next) → first_with asked (serials_in (drop from list)) ≡ first_with asked (serials_in (drop next list))
-      skipped_to next first = skipped list from next first.behind (λ place x low high here. not_held place x here (λ holds. (let le = first.first place low holds in absurd (omega (arith, le)))))
+      pub skipped_to : (next : ℕ) → IsNextDefiner s.objects list hash from (Some next) → first_with asked (serials_in (drop from list)) ≡ first_with asked (serials_in (drop next list))
+      skipped_to next first = skipped list from next first.behind (λ place x low high here. passed_by place x here (λ defines. (let le = first.first place low defines in absurd (omega (arith, le)))))
 
-      pub skipped_all : IsNext s list (gnu_hash name) from None → from ≤ length list → first_with asked (serials_in (drop from list)) ≡ None
-      skipped_all none le = skipped list from (length list) le (λ place x low high here. not_held place x here (none place low)) ∙ ap (λ (xs : List Searched). first_with asked (serials_in xs)) (drop_all (length list) list (omega arith))
+      pub skipped_all : IsNextDefiner s.objects list hash from None → from ≤ length list → first_with asked (serials_in (drop from list)) ≡ None
+      skipped_all none le = skipped list from (length list) le (λ place x low high here. passed_by place x here (none place low)) ∙ ap (λ (xs : List Searched). first_with asked (serials_in xs)) (drop_all (length list) list (omega arith))
 
 -- the search of what is left from a place on, which has an entry
 one_more : (list : List Searched) (place : ℕ) (x : Searched) → place < length list → x ≡ get_or list place x → drop place list ≡ x ∷ drop (place + 1) list
@@ -123,8 +118,3 @@ one_asked pick list place x lt is none = ap (λ (xs : List Searched). first_with
 pub one_has : (pick : ℕ → Option ℕ) (list : List Searched) (place index : ℕ) (x : Searched) → place < length list → x ≡ get_or list place x → pick x.serial ≡ Some index
     → first_with pick (serials_in (drop place list)) ≡ Some (x.serial, index)
 one_has pick list place index x lt is some = ap (λ (xs : List Searched). first_with pick (serials_in xs)) (one_more list place x lt is) ∙ first_some pick x.serial (serials_in (drop (place + 1) list)) index some
-
--- the next place of a list is behind another, and in the list
-pub next_within : (s : Seen) (list : List Searched) (hash from : ℕ) (next : Option ℕ) → IsNext s list hash from next → IfSome next (λ place. (from ≤ place) × (place < length list))
-next_within s list hash from None none = tt
-next_within s list hash from (Some place) first = (first.behind, first.within)

@@ -1,24 +1,23 @@
 //! Searching objects for a reference.
 
-ghost use Rattle.std.specs.Prelude.{◌≡◌, ◌<◌, ◌≤◌, length, IfSome, Some};
+ghost use Rattle.std.specs.Prelude.{◌≡◌, IfSome, Some};
 ghost use Rattle.std.specs.List.{AllByRecursion};
 ghost use Rattle.std.specs.Option.{option_copied};
 ghost use Rattle.ld_base.specs.Pick.{pick_of};
 ghost use Rattle.ld_base.specs.declared.linking.Loaded.{Loaded as Object};
 ghost use Rattle.scope_rule.specs.Choose.{first_with, pick_at};
 ghost use Rattle.scope_rule.specs.Seen.{Seen, seen};
-ghost use Rattle.scope_lists.specs.Holders.{AreHolders, IsNext};
+ghost use Rattle.scope_lists.specs.Definers.{AreDefiners};
 ghost use Rattle.scope_lists.specs.Lists.{AreListsOf, IsSearched};
 ghost use Rattle.scope_lists.specs.NameOrder.{IsNameOrder};
 ghost use Rattle.scope_lists.specs.Searched.{at_place, in_parts, serials_in};
-ghost use Rattle.sym_hash.specs.Hash.{gnu_hash};
 ghost use Rattle.sym_hash.specs.Reached.{IsTableOf};
 ghost use Rattle.sym_lookup.specs.Looking.{HaveTables, outside};
 ghost use Rattle.scope_lists.specs.VersionPlaces.Places.{places_of};
 
 use crate::sym_find::{Find, Sought, pick_ordered, rules_out};
 use ld_base::{Loaded, Serial, one_pick};
-use scope_lists::{Holders, NameOrder, ScopeParts, SearchLists, Searched, VersionNames};
+use scope_lists::{Definers, NameOrder, ScopeParts, SearchLists, Searched, VersionNames};
 use scope_rule::{View, linker_symbol, object_at};
 
 /// The object at a place, if any.
@@ -130,41 +129,26 @@ fn first_searched(
     None
 }
 
-/// The place of the first of these objects, from one on, that has a definition under the hash of the name.
-fn next_held(
-    view: &View,
-    sought: &Sought,
-    searched: &[Searched],
-    holders: &Holders,
-    from: usize,
-) -> Option<usize>
-    requires { AreHolders (seen view.now) searched.now holders.now }
-    ensures within { IfSome result (λ place. (from ≤ place) × (place < length searched.now)) }
-    ensures next { IsNext (seen view.now) searched.now (gnu_hash sought.now.name) from result }
-{
-    holders.next(sought.gnu(), from)
-}
-
 /// The first of these objects that has a definition, where it is known which of them have any under a hash: those
 /// alone are asked.
-fn first_held(
+fn first_defining(
     view: &View,
     lists: &SearchLists,
     sought: &Sought,
     searched: &[Searched],
-    holders: &Holders,
+    definers: &Definers,
     owner: Serial,
     copy: bool,
 ) -> Option<(Serial, u32)>
     requires lists { AreListsOf (seen view.now) lists.now }
     requires tables { HaveTables (seen view.now) }
     requires searched { AllByRecursion (IsSearched (seen view.now)) searched.now }
-    requires holders { AreHolders (seen view.now) searched.now holders.now }
+    requires definers { AreDefiners (seen view.now).objects searched.now definers.now }
     ensures { result ≡ first_with (outside copy owner (pick_at (seen view.now) sought.now.name sought.now.want)) (serials_in searched.now) }
 {
     one_pick();
     let mut from = 0;
-    while let Some(place) = next_held(view, sought, searched, holders, from) {
+    while let Some(place) = definers.next(sought.gnu(), from) {
         let one = &searched[place];
         if let Some(index) = found_outside(view, lists, sought, *one, owner, copy) {
             return Some((one.serial, index));
@@ -186,11 +170,11 @@ fn first_in_global(
     requires lists { AreListsOf (seen view.now) lists.now }
     requires tables { HaveTables (seen view.now) }
     requires searched { AllByRecursion (IsSearched (seen view.now)) parts.global.now }
-    requires holders { IfSome parts.holders (λ h. AreHolders (seen view.now) parts.global.now h.now) }
+    requires definers { IfSome parts.definers (λ d. AreDefiners (seen view.now).objects parts.global.now d.now) }
     ensures { result ≡ first_with (outside copy owner (pick_at (seen view.now) sought.now.name sought.now.want)) (serials_in parts.entry.global.now) }
 {
-    match parts.holders {
-        Some(holders) => first_held(view, lists, sought, parts.global, holders, owner, copy),
+    match parts.definers {
+        Some(definers) => first_defining(view, lists, sought, parts.global, definers, owner, copy),
         None => first_searched(view, lists, sought, parts.global, owner, copy),
     }
 }
@@ -207,7 +191,7 @@ pub(crate) fn first_in_parts(
     requires lists { AreListsOf (seen view.now) lists.now }
     requires tables { HaveTables (seen view.now) }
     requires searched { AllByRecursion (IsSearched (seen view.now)) (in_parts parts) }
-    requires holders { IfSome parts.holders (λ h. AreHolders (seen view.now) parts.global.now h.now) }
+    requires definers { IfSome parts.definers (λ d. AreDefiners (seen view.now).objects parts.global.now d.now) }
     ensures { result ≡ first_with (outside copy owner (pick_at (seen view.now) sought.now.name sought.now.want)) (serials_in (in_parts parts.entry)) }
 {
     let before = first_searched(view, lists, sought, parts.before, owner, copy);

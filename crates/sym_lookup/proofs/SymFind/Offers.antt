@@ -3,6 +3,7 @@ use Rattle.std.proofs.Common.{◌≡◌, ◌↔◌, ◌∙◌, sym, ap, ℕ, zer
 use Rattle.std.specs.Prelude.{◌==◌, ◌&&◌, ◌||◌, ◌⊎◌, not, min, nat_le, count_by, filter, if◌then◌else◌, Option, Some, None, slice_get}
 use Rattle.std.specs.List.{find, range_with_len}
 use Rattle.std.specs.Option.{MatchOption, option_map_or}
+use Rattle.std.proofs.Math.Bool.{and_assoc}
 use Rattle.std.proofs.lemmas.Bool.{and_from, and_parts, cases_eq, cases_lt, eqb-true, le-leb, leb-true, or_cases}
 use Rattle.std.proofs.lemmas.List.Sums.{sum_by-cons}
 use Rattle.std.proofs.lemmas.Option.{slice_get_within}
@@ -13,7 +14,7 @@ use Rattle.ld_base.specs.declared.object.Symbol.{Symbol}
 use Rattle.ld_base.specs.Pick.{has_version, is_offer, is_wanted, names_no_version, pick_of}
 use Rattle.ld_base.specs.Symbol.{is_hidden_version}
 use Rattle.ld_base.specs.Taken.{Exports, ExportsNone, IsLeast, IsOnly, Takes, fits, in_sight}
-use Rattle.scope_lists.specs.NameOrder.{exports, global_offers_of, offers_of, versions_of}
+use Rattle.scope_lists.specs.NameOrder.{exports, offers_of, unversioned_of, versions_of}
 use Rattle.sym_lookup.specs.SymFind.Best.{least}
 use Rattle.sym_lookup.specs.SymFind.Offers.{in_sight_at, is_wanted_at}
 
@@ -299,17 +300,13 @@ module _ (o : Object) (name : List ℕ) (w : Want) where
   both : (test : Symbol → Bool) (k : ℕ) → (exports o (is_offer o name) k && option_map_or test (slice_get o.symbols k) false) ≡ exports o (λ s. is_offer o name s && test s) k
   both test k = by (slice_get o.symbols k)
     where
-      joined : (a b c : Bool) → ((a && b) && c) ≡ (a && (b && c))
-      joined true b c = refl
-      joined false b c = refl
-
       nothing : (a : Bool) → ((a && false) && false) ≡ (a && false)
       nothing true = refl
       nothing false = refl
 
       by : (s : Option Symbol) → ((nat_le o.first_exported k && option_map_or (is_offer o name) s false) && option_map_or test s false) ≡ (nat_le o.first_exported k && option_map_or (λ x. is_offer o name x && test x) s false)
       by None = nothing (nat_le o.first_exported k)
-      by (Some s) = joined (nat_le o.first_exported k) (is_offer o name s) (test s)
+      by (Some s) = and_assoc (nat_le o.first_exported k) (is_offer o name s) (test s)
 
   same_test : (one other : Symbol → Bool) → ((s : Symbol) → one s ≡ other s) → (k : ℕ) → exports o one k ≡ exports o other k
   same_test one other same k = by (slice_get o.symbols k)
@@ -407,20 +404,20 @@ module _ (o : Object) (name version : List ℕ) where
   abbrev just : Symbol → Bool
   just s = is_offer o name s && has_version o version s
 
-  abbrev global : Symbol → Bool
-  global s = is_offer o name s && s.version == 1
+  abbrev unversioned : Symbol → Bool
+  unversioned s = is_offer o name s && s.version == 1
 
   pub just_first : (found : Option ℕ) → found ≡ slice_get (versions_of o name version) 0 → found ≡ find (is_wanted_at o (want.Dlvsym version)) (offers_of o name)
   just_first found is = is ∙ first_of_those (exports o just) (All o just) ∙ sym (first_of_both o name (want.Dlvsym version))
 
-  pub version_first : (a b : Option ℕ) → a ≡ find (is_wanted_at o (want.Dlvsym version)) (offers_of o name) → b ≡ slice_get (global_offers_of o name) 0
+  pub version_first : (a b : Option ℕ) → a ≡ find (is_wanted_at o (want.Dlvsym version)) (offers_of o name) → b ≡ slice_get (unversioned_of o name) 0
       → lesser a b ≡ find (is_wanted_at o (want.Version version)) (offers_of o name)
   version_first a b is first =
       let w : Want = want.Version version in
       let wanted : Symbol → Bool = λ s. is_offer o name s && is_wanted o w s in
-      let same : (s : Symbol) → wanted s ≡ either o just global s = λ s. apart (is_offer o name s) (has_version o version s) (s.version == 1) in
-      sym (first_of_both o name w ∙ find_same (exports o wanted) (exports o (either o just global)) (same_test o name w wanted (either o just global) same) (All o just)
-      ∙ first_of_either o just global a b (sym (is ∙ first_of_both o name (want.Dlvsym version))) (sym (first ∙ first_of_those (exports o global) (All o global))))
+      let same : (s : Symbol) → wanted s ≡ either o just unversioned s = λ s. apart (is_offer o name s) (has_version o version s) (s.version == 1) in
+      sym (first_of_both o name w ∙ find_same (exports o wanted) (exports o (either o just unversioned)) (same_test o name w wanted (either o just unversioned) same) (All o just)
+      ∙ first_of_either o just unversioned a b (sym (is ∙ first_of_both o name (want.Dlvsym version))) (sym (first ∙ first_of_those (exports o unversioned) (All o unversioned))))
     where
       apart : (x y z : Bool) → (x && (y || z)) ≡ (x && y || x && z)
       apart true y z = refl

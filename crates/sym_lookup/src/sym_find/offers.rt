@@ -14,7 +14,7 @@ use crate::sym_find::reference::{Asked, Sought};
 use ld_base::{Object, Want, one_pick};
 use scope_lists::{NameOrder, VersionNames};
 
-/// The first definition that a relocation with a version takes: one of this version, or one whose version all take.
+/// The first definition that a relocation with a version takes: one of this version, or one without a version.
 fn first_of_version(
     object: &Object,
     names: Option<&VersionNames>,
@@ -28,8 +28,8 @@ fn first_of_version(
     ensures { result ≡ find (is_wanted_at object.now (Want.Version version.now)) (offers_of object.now name.now) }
 {
     let just = first_of_just(object, names, order, name, version);
-    match order.global_offers(object, name).first() {
-        Some(global) => least(just, *global),
+    match order.unversioned_offers(object, name).first() {
+        Some(unversioned) => least(just, *unversioned),
         None => just,
     }
 }

@@ -19,5 +19,5 @@ sought_of-sought-requires c = c.owner_names-names.ensures (seen c.args.view.now)
 pub first_in_parts-found-requires-clause-searched : goal.first_in_parts-found-requires-clause-searched
 first_in_parts-found-requires-clause-searched c = c.requires.scope.places
 
-pub first_in_parts-found-requires-clause-holders : goal.first_in_parts-found-requires-clause-holders
-first_in_parts-found-requires-clause-holders c = c.requires.scope.holders
+pub first_in_parts-found-requires-clause-definers : goal.first_in_parts-found-requires-clause-definers
+first_in_parts-found-requires-clause-definers c = c.requires.scope.definers

@@ -9,5 +9,5 @@ returns c = record {
   links = c.in_ok-links.ensures;
   names = c.in_ok-names.ensures;
   orders = no_orders (seen c.args.view.now) c.new.result c.new.ensures;
-  scopes = none_kept (seen c.args.view.now) c.in_ok-links.links.places c.new-2.result c.in_ok-links.ensures.places (c.new-2.ensures.global ∙ c.in_ok-global.ensures) c.new-2.ensures.holders c.new-2.ensures.none;
+  scopes = none_kept (seen c.args.view.now) c.in_ok-links.links.places c.new-2.result c.in_ok-links.ensures.places (c.new-2.ensures.global ∙ c.in_ok-global.ensures) c.new-2.ensures.definers c.new-2.ensures.none;
 }

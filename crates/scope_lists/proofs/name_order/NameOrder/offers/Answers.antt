@@ -1,6 +1,6 @@
 use Rattle.std.proofs.Common.{List, ℕ, [], ◌∷◌, ap, ◌∙◌}
 use Rattle.std.specs.Prelude.{filter}
-use Rattle.scope_lists.specs.NameOrder.{by_name, has_key}
+use Rattle.scope_lists.specs.NameOrder.{Orders, by_name, has_key}
 use Rattle.scope_lists.proofs.ByName.{named}
 use Rattle.scope_lists.proofs.name_order.NameOrder.offers.Goals as goal
 
@@ -8,4 +8,4 @@ pub returns : goal.returns
 returns c =
     let o = c.args.object.now in
     let name : List ℕ = c.args.name.now in
-    c.run.ensures ∙ ap (filter (has_key (by_name o) (name ∷ []))) c.as_slice.ensures.value ∙ c.requires.names.runs (name ∷ []) ∙ named o name
+    c.run.ensures ∙ ap (filter (has_key (by_name o) (name ∷ []))) (c.as_slice.ensures.value ∙ ap (λ (x : Orders). x.names) c.self.view_is) ∙ c.requires.names.runs (name ∷ []) ∙ named o name

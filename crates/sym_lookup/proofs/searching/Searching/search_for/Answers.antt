@@ -25,5 +25,5 @@ returns-else-stays_own c =
 pub first_in_parts-found-requires-clause-searched : goal.first_in_parts-found-requires-clause-searched
 first_in_parts-found-requires-clause-searched c = c.self.invariant.3.places
 
-pub first_in_parts-found-requires-clause-holders : goal.first_in_parts-found-requires-clause-holders
-first_in_parts-found-requires-clause-holders c = c.self.invariant.3.holders
+pub first_in_parts-found-requires-clause-definers : goal.first_in_parts-found-requires-clause-definers
+first_in_parts-found-requires-clause-definers c = c.self.invariant.3.definers

@@ -1,10 +1,10 @@
 //! Which objects of a list have definitions under a hash, in one look-up for all of them.
 
-ghost use Rattle.std.specs.Prelude.{◌≡◌, ◌+◌, ◌<◌, ◌≤◌, ◌==◌, [], length, OnOk};
+ghost use Rattle.std.specs.Prelude.{◌≡◌, ◌+◌, ◌<◌, ◌≤◌, ◌==◌, length, IfOk, OnOk};
 ghost use Rattle.std.specs.List.{list_any};
 ghost use Rattle.std.specs.Option.{option_copied};
 ghost use Rattle.scope_rule.specs.Seen.{seen};
-ghost use Rattle.scope_lists.specs.Holders.{AreHoldersBelow, HoldsMore};
+ghost use Rattle.scope_lists.specs.Definers.{AreDefinersBelow, DefinesMore};
 ghost use Rattle.scope_lists.specs.Searched.{at_place};
 
 use crate::name_order::is_offered_at;
@@ -26,7 +26,7 @@ const PLACES: u64 = 0x1_0000_0000;
 
 /// The object at a place of the list has a definition under a hash.
 #[derive(Clone, Copy)]
-pub(crate) struct Held {
+pub(crate) struct Definer {
     hash: u32,
     place: u32,
 }
@@ -34,17 +34,17 @@ pub(crate) struct Held {
 /// Which objects of a list have definitions under a hash that others may ask for (the GNU hash table). Contracts
 /// see the hashes with the places of these objects.
 #[derive(Drop)]
-pub struct Holders {
-    held: Vec<Held>,
+pub struct Definers {
+    entries: Vec<Definer>,
 }
 
-impl Model for Holders {
+impl Model for Definers {
     ghost use Rattle.std.specs.Prelude.{List};
-    ghost use Rattle.scope_lists.specs.declared.holders.Held.{Held};
+    ghost use Rattle.scope_lists.specs.declared.definers.Definer.{Definer};
 
-    ghost Value = { List Held };
+    ghost Value = { List Definer };
 
-    ghost view = { λ holders. holders.held.items };
+    ghost view = { λ definers. definers.entries.items };
 }
 
 /// The object of an entry, if it is there.
@@ -77,56 +77,56 @@ fn has_linker(list: &[Searched]) -> bool
     list.iter().any(|entry| entry.serial == Serial::LINKER)
 }
 
-/// Puts the definitions of an object at a place of the list at the end.
-fn add_of(object: &Object, place: u32, held: &mut Vec<Held>) -> Result<(), AllocError>
-    ensures { OnOk result (HoldsMore (length object.now.symbols) object.now place held.old.items held.new.items) }
+/// Puts an object, which stands at a place of the list, at the end for each of its definitions.
+fn append_object(object: &Object, place: u32, definers: &mut Vec<Definer>) -> Result<(), AllocError>
+    ensures { OnOk result (DefinesMore (length object.now.symbols) object.now place definers.old.items definers.new.items) }
 {
     for index in 0..object.symbols.len() {
         if is_offered_at(object, index) {
             let hash = gnu_hash(name_at(object, index));
-            held.push(Held { hash, place })?;
+            definers.push(Definer { hash, place })?;
         }
     }
     Ok(())
 }
 
 /// The same of the object at a place of the list, if it is there.
-fn add_at(
+fn append_at(
     view: &View,
     list: &[Searched],
     place: u32,
-    held: &mut Vec<Held>,
+    definers: &mut Vec<Definer>,
 ) -> Result<(), AllocError>
     requires place { place < length list.now }
-    requires held { AreHoldersBelow place (seen view.now) list.now held.old.items }
-    ensures { OnOk result (AreHoldersBelow (place + 1) (seen view.now) list.now held.new.items) }
+    requires definers { AreDefinersBelow place (seen view.now).objects list.now definers.old.items }
+    ensures { OnOk result (AreDefinersBelow (place + 1) (seen view.now).objects list.now definers.new.items) }
 {
     match object_of(view, list[place as usize]) {
-        Some(loaded) => add_of(&loaded.object, place, held),
+        Some(loaded) => append_object(&loaded.object, place, definers),
         None => Ok(()),
     }
 }
 
 /// Those of the first so many objects of a list.
-fn add_all(
+fn definers_of(
+    alloc: Global,
     view: &View,
     list: &[Searched],
     count: u32,
-    held: &mut Vec<Held>,
-) -> Result<(), AllocError>
-    requires count { count ≤ length list.now }
-    requires none { held.old.items ≡ [] }
-    ensures { OnOk result (AreHoldersBelow count (seen view.now) list.now held.new.items) }
+) -> Result<Vec<Definer>, AllocError>
+    requires { count ≤ length list.now }
+    ensures { IfOk result (λ definers. AreDefinersBelow count (seen view.now).objects list.now definers.items) }
 {
+    let mut definers = Vec::new(alloc);
     for place in 0..count {
-        add_at(view, list, place, held)?;
+        append_at(view, list, place, &mut definers)?;
     }
-    Ok(())
+    Ok(definers)
 }
 
-impl Held {
+impl Definer {
     ghost use Rattle.std.specs.Prelude.{◌≡◌};
-    ghost use Rattle.scope_lists.specs.Holders.{rank};
+    ghost use Rattle.scope_lists.specs.Definers.{rank};
 
     /// Where it stands among others: by its hash, and then by its place.
     fn rank(&self) -> u64
@@ -136,11 +136,12 @@ impl Held {
     }
 }
 
-impl Holders {
+impl Definers {
     ghost use Rattle.std.specs.Prelude.{◌≡◌, List, IfOk, IfSome};
     ghost use Rattle.std.specs.List.Sorted.{IsNonDecreasingBy};
-    ghost use Rattle.scope_rule.specs.Seen.{Seen, seen};
-    ghost use Rattle.scope_lists.specs.Holders.{AreHolders, IsFirstFrom, IsNext, rank};
+    ghost use Rattle.ld_base.specs.declared.linking.Loaded.{Loaded as LoadedObject};
+    ghost use Rattle.scope_rule.specs.Seen.{seen};
+    ghost use Rattle.scope_lists.specs.Definers.{AreDefiners, IsFirstFrom, IsNextDefiner, rank};
     ghost use Rattle.scope_lists.specs.declared.searched.Searched.{Searched as Entry};
 
     /// Those of a list of objects of a namespace; none where the list is too long, or the linker is in it.
@@ -149,7 +150,7 @@ impl Holders {
         view: &View,
         list: &[Searched],
     ) -> Result<Option<Self>, AllocError>
-        ensures { IfOk result (λ found. IfSome found (AreHolders (seen view.now) list.now)) }
+        ensures { IfOk result (λ found. IfSome found (AreDefiners (seen view.now).objects list.now)) }
     {
         let Ok(count) = u32::try_from(list.len()) else {
             return Ok(None);
@@ -157,21 +158,20 @@ impl Holders {
         if has_linker(list) {
             return Ok(None);
         }
-        let mut held = Vec::new(alloc);
-        add_all(view, list, count, &mut held)?;
-        held.sort_unstable_by_key(|held| held.rank());
-        Ok(Some(Holders { held }))
+        let mut entries = definers_of(alloc, view, list, count)?;
+        entries.sort_unstable_by_key(|entry| entry.rank());
+        Ok(Some(Definers { entries }))
     }
 
     /// The first place of the list, from this one on, at which an object has a definition under a hash, of any
-    /// list whose holders these are. It takes a few steps, however many there are.
+    /// list whose definers these are. It takes a few steps, however many there are.
     pub fn next(&self, hash: u32, from: usize) -> Option<usize>
-        ensures { (s : Seen) (list : List Entry) → AreHolders s list self.now → IsNext s list hash from result }
+        ensures { (objects : List LoadedObject) (list : List Entry) → AreDefiners objects list self.now → IsNextDefiner objects list hash from result }
     {
         let Ok(place) = u32::try_from(from) else {
             return None;
         };
-        let found = self.first_from(&Held { hash, place })?;
+        let found = self.first_from(&Definer { hash, place })?;
         if found.hash == hash {
             Some(found.place as usize)
         } else {
@@ -180,11 +180,11 @@ impl Holders {
     }
 
     /// The first of them that doesn't rank before another, where they are in order.
-    fn first_from(&self, wanted: &Held) -> Option<Held>
+    fn first_from(&self, wanted: &Definer) -> Option<Definer>
         ensures { IsNonDecreasingBy rank self.now → IsFirstFrom (rank wanted.now) self.now result }
     {
-        let held = self.held.as_slice();
-        let start = held.partition_point(|held| held.rank() < wanted.rank());
-        held.get(start).copied()
+        let entries = self.entries.as_slice();
+        let start = entries.partition_point(|entry| entry.rank() < wanted.rank());
+        entries.get(start).copied()
     }
 }

@@ -3,7 +3,7 @@ use Rattle.scope_rule.specs.Choose.{first_with, pick_at}
 use Rattle.scope_rule.specs.Seen.{seen}
 use Rattle.scope_lists.specs.Searched.{serials_in}
 use Rattle.sym_lookup.specs.Looking.{outside}
-use Rattle.sym_lookup.proofs.searched.first_held.Given as goal
+use Rattle.sym_lookup.proofs.searched.first_defining.Given as goal
 
 -- the search of the rest is the search of the whole
 abbrev pub invariant-loop-place : goal.invariant-loop-place
