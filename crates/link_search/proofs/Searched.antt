@@ -1,14 +1,17 @@
 -- Which namespace a look-up searches.
-use Rattle.std.proofs.Common.{◌≡◌, ℕ, Bool, true, false, eqb, cond, List, Option, Some, None, sym, ap, ◌∙◌}
+use Rattle.std.proofs.Common.{◌≡◌, ℕ, Bool, true, false, eqb, cond, List, Option, Some, None, sym, ap, subst, ◌∙◌}
 use Rattle.std.specs.List.{find}
 use Rattle.std.specs.Option.{option_map}
 use Rattle.history_event.specs.declared.event.SymAsk.{SymAsk}
 use Rattle.history_state.specs.Lookup.{found_default, found_on_handle, is_opened, search, wanted_of}
 use Rattle.history_state.specs.State.{State}
+use Rattle.history_state.specs.Lemmas.Lists.{found_in}
 use Rattle.ld_base.specs.declared.linking.Want.{Want}
 use Rattle.scope_rule.specs.Searching.{in_breadth}
 use Rattle.scope_rule.specs.Seen.{Seen, seen_in}
 use Rattle.scope_rule.specs.declared.namespace.Namespace.{Namespace}
+use Rattle.sym_lookup.specs.Looking.{HaveTables}
+use Rattle.link_search.specs.Finding.{AllHaveTables}
 
 pub by_default : (s : State) (ask : SymAsk) → eqb ask.handle 0 ≡ true → search s ask ≡ found_default s ask
 unfolding search
@@ -30,3 +33,7 @@ some_handle s namespaces ask want ns view found isnt are there wants sees is =
     ap (λ (f : Option (ℕ × ℕ)). Some f) (is ∙ ap (λ (v : Seen). in_breadth v ask.handle ask.name want) sees ∙ ap (λ (w : Want). in_breadth (seen_in ns) ask.handle ask.name w) wants)
     ∙ ap (option_map (λ (n : Namespace). in_breadth (seen_in n) ask.handle ask.name (wanted_of ask.version))) (there ∙ ap (find (is_opened ask.handle)) (sym are))
     ∙ sym (on_handle s ask isnt)
+
+-- what is seen of a namespace that is found has its own tables
+pub its_tables : (namespaces : List Namespace) (p : Namespace → Bool) (ns : Namespace) (view : Seen) → AllHaveTables namespaces → Some ns ≡ find p namespaces → view ≡ seen_in ns → HaveTables view
+its_tables namespaces p ns view all there sees = (let P : Seen → Type 0 = HaveTables in subst P (sym sees) (all ns (found_in p namespaces ns (sym there)).0))

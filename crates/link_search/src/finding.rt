@@ -6,7 +6,7 @@ ghost use Rattle.ld_base.specs.declared.fault.DlFault.TheVariants.{MissingSymbol
 ghost use Rattle.history_state.specs.Lookup.{IsShort, search, searched_object, wanted_of};
 ghost use Rattle.history_state.specs.Objects.{has_namespace};
 ghost use Rattle.history_state.specs.State.{State};
-ghost use Rattle.link_search.specs.Finding.{IsSymFault};
+ghost use Rattle.link_search.specs.Finding.{AllHaveTables, IsSymFault};
 ghost use Rattle.link_search.specs.declared.finding.SymFault.TheVariants.{Memory};
 
 use crate::searching::{DEFAULT, search_in};
@@ -47,6 +47,7 @@ pub fn find_symbol(
 ) -> Result<(Serial, u32), SymFault>
     requires want { want.now ≡ wanted_of ask.now.version }
     requires short { IsShort ask.now }
+    requires tables { AllHaveTables namespaces.now }
     ensures found { IfOk result (λ p. (s : State) → s.namespaces ≡ namespaces.now → search s ask.now ≡ Some (Some (p.0, p.1))) }
     ensures refused { IfErr result (λ e. (s : State) (hart : ℕ) → s.namespaces ≡ namespaces.now → IsTrue (has_namespace s ask.now.ns)
         → IsSymFault s hart ask.now e) }

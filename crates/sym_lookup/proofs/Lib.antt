@@ -1,3 +1,5 @@
+pub mod BySerial
+pub mod Globals
 pub mod Searches
 pub mod Skips
 pub mod SymFind

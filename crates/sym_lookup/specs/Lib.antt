@@ -1,3 +1,4 @@
+pub mod BySerial
 pub mod Looking
 pub mod References
 pub mod SymFind

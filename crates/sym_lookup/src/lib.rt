@@ -8,11 +8,17 @@
 //! global list have definitions under a hash, the others aren't asked. The hashes of a reference's name are
 //! computed once. None of them takes memory, but for making [`References`].
 //!
+//! [`lookup_breadth`] and [`lookup_global`] give what `scope_rule::search_breadth` and `search_global` give: a name
+//! is looked up where dlsym does. Each object is asked by its hash table, and the objects are gone through no
+//! further than the search comes, so as to know each by its serial. That takes memory.
+//!
 //! `sym_find` follows the one chain of a hash table to which a name's hash leads ([`Find`]).
 #![tactic(auto)]
 
+mod by_serial;
 mod law;
 mod looking;
+mod names;
 mod references;
 mod searched;
 mod searching;
@@ -20,6 +26,7 @@ mod sym_find;
 
 pub use law::tables_are_there;
 pub use looking::{lookup, lookup_in, lookup_reloc};
+pub use names::{lookup_breadth, lookup_global};
 pub use references::References;
 pub use scope_lists::SearchLists;
 pub use sym_find::{Asked, Find, Sought};

@@ -13,9 +13,10 @@ ghost use Rattle.link_search.specs.Asking.{ask_of};
 ghost use Rattle.link_search.specs.Finding.{IsSymFault};
 
 use crate::LinkState;
+use elf_object::one_object;
 use history_event::SymAsk;
 use history_journal::accepted_object;
-use history_state::symbols_are_stored;
+use history_state::{objects_are_read, symbols_are_stored};
 use ld_base::{Choice, DlFault, HartId, NsId, Serial, Want};
 use link_holds::{found_event, nothing, store_block};
 use link_open_images::{BlockFault, NewBlock, harts_have_new_blocks, new_blocks_are_installed};
@@ -47,6 +48,9 @@ impl LinkState {
         ensures refused { IfErr result (IsSymFault (after self.old.events) hart (ask_of ns handle name.now want.now)) }
         ensures err { OnErr result (self.new ≡ self.old) }
     {
+        objects_are_read();
+        one_object();
+        let _ = self.journal.journal();
         let ask = symbol_ask(self.alloc, ns, handle, name, want)?;
         let namespaces = self.namespaces.as_slice();
         let (serial, index) = find_symbol(self.alloc, namespaces, &ask, want)?;

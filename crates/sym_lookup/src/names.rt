@@ -1,0 +1,116 @@
+//! Looking a name up that isn't a relocation's.
+
+ghost use Rattle.std.specs.Prelude.{◌≡◌, ◌∷◌, [], IfOk, OnOk};
+ghost use Rattle.scope_rule.specs.Choose.{first_with, pick_at};
+ghost use Rattle.scope_rule.specs.Searching.{in_breadth, in_global};
+ghost use Rattle.scope_rule.specs.Seen.{Seen, seen};
+ghost use Rattle.sym_lookup.specs.BySerial.{Knows};
+ghost use Rattle.sym_lookup.specs.Looking.{HaveTables};
+
+use crate::by_serial::BySerial;
+use crate::sym_find::{Asked, Find, Sought};
+use ld_base::{Serial, Want};
+use scope_rule::{View, breadth, linker_symbol};
+use std::alloc::{AllocError, Global};
+
+/// What an object of the namespace, or the linker's own, has for a name.
+///
+/// # Errors
+///
+/// Want of memory.
+#[tactic(auto, unfolding(scope_rule::specs::Choose::pick_at))]
+fn found_at(
+    view: &View,
+    known: &mut BySerial,
+    sought: &Sought,
+    serial: Serial,
+) -> Result<Option<u32>, AllocError>
+    requires tables { HaveTables (seen view.now) }
+    requires knows { Knows (seen view.now) known.old }
+    ensures found { IfOk result (λ found. found ≡ pick_at (seen view.now) sought.now.name sought.now.want serial) }
+    ensures knows { OnOk result (Knows (seen view.now) known.new) }
+{
+    if serial == Serial::LINKER {
+        return Ok(linker_symbol(sought.name()));
+    }
+    match known.object(view, serial)? {
+        Some(loaded) => Ok(loaded.table.find_sought(&loaded.object, None, sought)),
+        None => Ok(None),
+    }
+}
+
+/// The first of these objects that has a definition, with its symbol.
+///
+/// # Errors
+///
+/// Want of memory.
+fn first_found(
+    alloc: Global,
+    view: &View,
+    sought: &Sought,
+    serials: &[Serial],
+) -> Result<Option<(Serial, u32)>, AllocError>
+    requires tables { HaveTables (seen view.now) }
+    ensures { IfOk result (λ found. found ≡ first_with (pick_at (seen view.now) sought.now.name sought.now.want) serials.now) }
+{
+    let mut known = BySerial::new(alloc);
+    for serial in serials {
+        if let Some(index) = found_at(view, &mut known, sought, *serial)? {
+            return Ok(Some((*serial, index)));
+        }
+    }
+    Ok(None)
+}
+
+/// What dlsym finds on a handle, as `scope_rule::search_breadth` gives it: each object is asked by its own
+/// table.
+///
+/// # Errors
+///
+/// Want of memory.
+#[tactic(auto, unfolding(scope_rule::specs::Searching::in_breadth))]
+pub fn lookup_breadth(
+    alloc: Global,
+    view: &View,
+    root: Serial,
+    name: &[u8],
+    want: &Want,
+) -> Result<Option<(Serial, u32)>, AllocError>
+    requires tables { HaveTables (seen view.now) }
+    ensures { IfOk result (λ found. found ≡ in_breadth (seen view.now) root name.now want.now) }
+{
+    let sought = Sought::new(name, Asked::of(want));
+    let order = breadth(alloc, view, root)?;
+    first_found(alloc, view, &sought, order.as_slice())
+}
+
+/// What dlsym finds on RTLD_DEFAULT, as `scope_rule::search_global` gives it: each object is asked by its own
+/// table.
+///
+/// # Errors
+///
+/// Want of memory.
+pub fn lookup_global(
+    alloc: Global,
+    view: &View,
+    name: &[u8],
+    want: &Want,
+) -> Result<Option<(Serial, u32)>, AllocError>
+    requires tables { HaveTables (seen view.now) }
+    ensures { IfOk result (λ found. found ≡ in_global (seen view.now) name.now want.now) }
+{
+    let sought = Sought::new(name, Asked::of(want));
+    match first_found(alloc, view, &sought, view.global)? {
+        Some(found) => Ok(Some(found)),
+        None => Ok(found_in_linker(&sought)),
+    }
+}
+
+/// The linker's own object, which is searched behind all others, with the symbol that it has for a name.
+#[tactic(auto, unfolding(scope_rule::specs::Choose::pick_at))]
+fn found_in_linker(sought: &Sought) -> Option<(Serial, u32)>
+    ensures { (s : Seen) → result ≡ first_with (pick_at s sought.now.name sought.now.want) (0 ∷ []) }
+{
+    let index = linker_symbol(sought.name())?;
+    Some((Serial::LINKER, index))
+}
