@@ -92,12 +92,24 @@ def again_and_again(count, size):
     return scenario({"prog": prog, "lib/libbig.so": big}, "turns --lib lib --fuel 100000000 rr prog")
 
 
+def spelled_anew(count, size):
+    """A guest opens and closes a library by path, spelled with one `./` more each time."""
+    loop = "more: addi s2, s2, -2\nmv a0, s2\nli a1, 1\ncall dlopen\ncall dlclose\naddi s1, s1, -1\nbnez s1, more\n"
+    begin = f"_start: la s2, n\nli s1, {count}\nadd s2, s2, s1\nadd s2, s2, s1\n"
+    prog = ".kind prog\n" + begin + loop + EXIT + '.data\nn: .asciz "' + "./" * count + 'lib/libbig.so"\n'
+    big = f".global d\n.data\nd: .zero {size}\n"
+    return scenario({"prog": prog, "lib/libbig.so": big}, "turns --lib lib --fuel 100000000 rr prog")
+
+
 def openings():
     for mib in (1, 4):
         one = again_and_again(1, mib << 20)
         row(1, f"a library of {mib} MiB is opened and closed once", one, "")
         done = again_and_again(1000, mib << 20)
         row(1, "a thousand times", done, f"{one.mib + 2:.0f} MiB: a library's bytes are kept once")
+    one = spelled_anew(1, 4 << 20)
+    row(1, "one of 4 MiB is opened by its path and closed", one, "")
+    row(1, "a hundred times, each path spelled anew", spelled_anew(100, 4 << 20), f"{one.mib + 2:.0f} MiB")
 
 
 def waiting(turns):
@@ -119,19 +131,40 @@ def plain(names):
     return [b"f%06d" % k for k in range(names)]
 
 
+RETURN = bytes.fromhex("67800000")
+
+
+def called_one_by_one(texts):
+    """A program that calls each name of a library whose names are all in one bucket, and each of whose functions returns."""
+    free = 240
+    library = bytearray(one_bucket(texts, free)["lib/liba.so"])
+    library[free : free + 4] = RETURN
+    calls = "".join(f"call {text.decode()}\n" for text in texts)
+    return {"prog": ".kind prog\n.needed liba.so\n_start: nop\n" + calls + EXIT, "lib/liba.so": bytes(library)}
+
+
+def looked_up(names, count):
+    """A program that looks the last name of a library up so many times."""
+    texts = [text.decode() for text in plain(names)]
+    library = "".join(f".global {text}\n{text}:\n" for text in texts) + "ret\n"
+    loop = f"_start: li s1, {count}\nmore: li a0, 0\nla a1, n\ncall dlsym\naddi s1, s1, -1\nbnez s1, more\n"
+    prog = ".kind prog\n.needed liba.so\n" + loop + EXIT + f'.data\nn: .asciz "{texts[-1]}"\n'
+    return {"prog": prog, "lib/liba.so": library}
+
+
 def fallen(names):
     """Names of one System V hash: that of aQ is that of bA, too."""
     return [b"".join((b"bA", b"aQ")[k >> bit & 1] for bit in range(17)) for k in range(names)]
 
 
-def one_bucket(texts):
-    """A program with as many slots as its library has names, all in one bucket; the names are of one length."""
+def one_bucket(texts, value=0x1000):
+    """A program with as many slots as its library has names, all in one bucket; the names are of one length, and of one value."""
     names, step = len(texts), len(texts[0]) + 1
     strings = b"\0\0\0liba.so\0" + b"\0".join(texts) + b"\0"
     hashes = [gnu_hash(text) & ~1 for text in texts]
     hashes[-1] |= 1
     table = struct.pack("<4IQI", 1, 1, 1, 6, 2**64 - 1, 1) + struct.pack(f"<{names}I", *hashes)
-    defined = [struct.pack("<IBBHQQ", 11 + step * k, 0x12, 0, 1, 0x1000, 4) for k in range(names)]
+    defined = [struct.pack("<IBBHQQ", 11 + step * k, 0x12, 0, 1, value, 4) for k in range(names)]
     library = one_name.build(3, (0x6FFFFEF5, table), defined, 0, [], 0, strings=strings)
     return {"prog": asking(b"liba.so", texts), "lib/liba.so": library}
 
@@ -208,6 +241,12 @@ def buckets():
     row(3, "bind of 1000 objects with 60 slots each to 60000 names in one bucket", done, "5 s")
     done = scenario(behind(1000, 39000), "bind --lib lib prog")
     row(3, "bind of 39000 slots to a library that stands behind 1000 others", done, "5 s")
+    for names in (5000, 20000):
+        done = scenario(called_one_by_one(plain(names)), "turns --lib lib --fuel 10000000 rr prog")
+        row(3, f"{names} slots to as many names in one bucket are bound one by one", done, "5 s")
+    for names in (300, 30000):
+        done = scenario(looked_up(names, 10000), "turns --lib lib --fuel 10000000 rr prog")
+        row(3, f"dlsym, 10000 times, of one of {names} names", done, "that of 300")
 
 
 def library_named(number, needed):

@@ -1,5 +1,6 @@
 -- What is read first of the tables: for the reader of this crate alone.
 use Rattle.std.specs.Prelude.{◌≡◌, ℕ, ◌*◌, Bool, IsTrue, List, ◌∷◌, Option, Ok}
+use Rattle.ld_base.specs.declared.object.Symbol.{Symbol}
 use Rattle.ld_base.specs.declared.parts.Head.{Head}
 use Rattle.ld_base.specs.declared.parts.Header.{Header}
 use Rattle.ld_base.specs.declared.parts.Tag.{Tag}
@@ -32,8 +33,9 @@ rules_from_names bytes head program tags =
     (plt_relocs bytes head.headers tags) (relr_bytes bytes head.headers tags)
 
 -- tables of an accepted head that were read and judged, whose symbols are in the file
-pub record AreJudged (bytes : List ℕ) (head : Head) (tags : List Tag) (counted : Counted) (judged : Judged) : Type 0 where
+pub record AreJudged (bytes : List ℕ) (head : Head) (tags : List Tag) (counted : Counted) (bare : List Symbol) (judged : Judged) : Type 0 where
   pub accepted : head_verdict bytes ≡ Ok head
   pub symbols : IsTrue (readable head.headers (value_of tags dt_symtab) (24 * counted.count))
   pub read : counted ≡ counted_in bytes head.headers tags
+  pub nameless : bare ≡ bare_in bytes head.headers tags
   pub places : ArePlaces judged (relr_places (relr_bytes bytes head.headers tags))

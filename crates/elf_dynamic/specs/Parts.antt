@@ -1,7 +1,7 @@
 -- What the dynamic table and the tables that it names say, field by field, whatever the rules (gABI, "Dynamic Section", "Symbol Table",
 -- "String Table", "Relocation"; psABI, "Relocations"). A table that isn't there, or whose bytes the file doesn't have, has no entry here, and a
 -- name that is no string is empty: which have to be there is a rule's part.
-use Rattle.std.specs.Prelude.{◌≡◌, ◌≢◌, ◌↔◌, ◌⊎◌, ℕ, ◌+◌, ◌-◌, ◌*◌, ◌/◌, ◌%◌, ◌^◌, ◌==◌, ◌<◌, ◌≤◌, Bool, IsTrue, List, [], ◌∷◌, ◌++◌, length, map, filter}
+use Rattle.std.specs.Prelude.{◌≡◌, ◌≢◌, ◌↔◌, ◌⊎◌, ℕ, ◌+◌, ◌-◌, ◌*◌, ◌/◌, ◌%◌, ◌<◌, ◌≤◌, IsTrue, List, [], ◌∷◌, ◌++◌, length, map, filter}
 use Rattle.std.specs.Prelude.{Option, Some, None}
 use Rattle.std.specs.List.{range_with_len, slice_get}
 use Rattle.ld_base.specs.Field.{field}

@@ -14,9 +14,10 @@ ghost use Rattle.elf_dynamic.specs.Rules.{bad_table, dynamic_verdict, rules_on, 
 ghost use Rattle.elf_dynamic.specs.Verdict.{BreaksFirst, SpellsDynamic};
 ghost use Rattle.elf_head.specs.DynTable.HashWords.{hash_words};
 ghost use Rattle.elf_head.specs.DynTable.Name.{string_in};
+ghost use Rattle.elf_head.specs.DynTable.Symbol.{IsBare};
 ghost use Rattle.elf_head.specs.DynTable.Tag.{last_of, value_of, values_of};
 ghost use Rattle.elf_head.specs.DynTable.TagNumbers.{dt_needed, dt_soname, dt_symtab};
-ghost use Rattle.elf_dynamic.specs.Tables.{count_in, parts_in, relr_bytes, symbol_bytes};
+ghost use Rattle.elf_dynamic.specs.Tables.{bare_in, count_in, parts_in, relr_bytes, symbol_bytes};
 
 use crate::feature::{Both, refused_feature};
 use crate::law::one_verdict;
@@ -32,12 +33,13 @@ use crate::tables::{
 use elf_head::{
     DT_FINI, DT_FINI_ARRAY, DT_FINI_ARRAYSZ, DT_INIT, DT_INIT_ARRAY, DT_INIT_ARRAYSZ, DT_NEEDED,
     DT_PLTGOT, DT_PREINIT_ARRAY, DT_PREINIT_ARRAYSZ, DT_RELR, DT_RELRSZ, DT_SONAME, DT_STRSZ,
-    DT_STRTAB, DT_SYMTAB, SYMBOL_SIZE, SymbolTable, accepted_head, file_bytes, last_of,
-    read_hash_words, read_relocs, read_string, read_symbols, value_of, values_of, with_name,
+    DT_STRTAB, DT_SYMTAB, SYMBOL_SIZE, SymbolTable, accepted_head, bare_symbols_lack_names,
+    file_bytes, last_of, read_hash_words, read_relocs, read_string, read_symbols, value_of,
+    values_of, with_name,
 };
 use ld_base::{
     DynParts, Head, Header, Name, Names, NotAccepted, Places, ReadFault, Reloc, Relocs, Symbol,
-    Tag, Tags,
+    Symbols, Tag, Tags,
 };
 use std::alloc::{AllocError, Global};
 use std::marker::Model;
@@ -194,6 +196,8 @@ pub struct JudgedParts<'a> {
     head: &'a Head,
     tags: Tags,
     counted: Counted,
+    /// The symbols without their names.
+    bare: Symbols,
     judged: Judged,
 }
 
@@ -206,7 +210,7 @@ impl<'a> Model for JudgedParts<'a> {
 
     ghost view = { λ p. parts_in p.bytes.now p.head.now.headers p.tags };
 
-    ghost invariant = { λ p. AreJudged p.bytes.now p.head.now p.tags p.counted p.judged };
+    ghost invariant = { λ p. AreJudged p.bytes.now p.head.now p.tags p.counted p.bare p.judged };
 }
 
 impl<'a> JudgedParts<'a> {
@@ -237,6 +241,16 @@ impl<'a> JudgedParts<'a> {
         SymbolTable::new(part, strings, self.counted.count)
     }
 
+    /// The symbols without their names, and with version 0.
+    #[tactic(auto, unfolding(crate::specs::Tables::parts_in, crate::specs::Tables::bare_in))]
+    pub fn bare(&self) -> &[Symbol]
+        ensures nameless { IsBare self.now.symbols result.now }
+        ensures few { length result.now < 2 ^ 32 }
+    {
+        bare_symbols_lack_names();
+        self.bare.as_slice()
+    }
+
     /// The parts, with a copy of each name. More bytes of names, or places of packed relocations,
     /// than are kept are want of memory.
     ///
@@ -256,6 +270,7 @@ impl<'a> JudgedParts<'a> {
             head,
             tags,
             counted,
+            bare: _,
             judged,
         } = self;
         let entries = tags.as_slice();
@@ -280,7 +295,8 @@ impl<'a> JudgedParts<'a> {
     }
 }
 
-/// Judges what the tables with these entries say, of which none is bad (rules 12 to 16).
+/// Judges what the tables with these entries say, of which none is bad (rules 12 to 16), and gives the symbols
+/// without their names.
 #[tactic(auto, unfolding(crate::specs::Tables::strings_in, crate::specs::Tables::bare_in), using(crate::proofs::Reading::short_parts))]
 fn judge_tables(
     alloc: Global,
@@ -289,13 +305,14 @@ fn judge_tables(
     program: bool,
     tags: &[Tag],
     counted: &Counted,
-) -> Result<Judged, ReadFault>
+) -> Result<(Symbols, Judged), ReadFault>
     requires accepted { head_verdict bytes.now ≡ Ok head.now }
     requires readable { IsTrue (readable head.now.headers (value_of tags.now dt_symtab) (24 * counted.now.count)) }
     requires counted { counted.now ≡ counted_in bytes.now head.now.headers tags.now }
     ensures { MatchResult result
-        (λ judged. (first_broken 12 (rules_from_names bytes.now head.now program tags.now) ≡ None)
-        × ArePlaces judged (relr_places (relr_bytes bytes.now head.now.headers tags.now)))
+        (λ both. (first_broken 12 (rules_from_names bytes.now head.now program tags.now) ≡ None)
+        × (both.0 ≡ bare_in bytes.now head.now.headers tags.now)
+        × ArePlaces both.1 (relr_places (relr_bytes bytes.now head.now.headers tags.now)))
         (λ fault. FaultIs (first_broken 12 (rules_from_names bytes.now head.now program tags.now)) fault) }
 {
     accepted_head();
@@ -314,7 +331,8 @@ fn judge_tables(
         slots: counted.plt_relocs.as_slice(),
         packed: bytes_in(bytes, head, span_of(tags, DT_RELR, DT_RELRSZ)),
     };
-    judge(alloc, tables, program)
+    let judged = judge(alloc, tables, program)?;
+    Ok((symbols, judged))
 }
 
 /// Judges the tables with these entries. No bound of memory comes before a rule that is broken.
@@ -330,12 +348,13 @@ fn judge_all<'a>(
     ensures { Gives result (tables_verdict bytes.now head.now program tags) }
 {
     let counted = read_counted(alloc, bytes, head, tags.as_slice())?;
-    let judged = judge_tables(alloc, bytes, head, program, tags.as_slice(), &counted)?;
+    let (bare, judged) = judge_tables(alloc, bytes, head, program, tags.as_slice(), &counted)?;
     Ok(JudgedParts {
         bytes,
         head,
         tags,
         counted,
+        bare,
         judged,
     })
 }

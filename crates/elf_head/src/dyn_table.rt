@@ -8,7 +8,8 @@
 //! - [`SymbolTable`] is a symbol table with its names, before these are copied.
 //! - [`read_hash_words`] gives the words of the hash tables.
 //!
-//! [`one_reading`] says by relations what the entries and a string are.
+//! [`one_reading`] says by relations what the entries and a string are, and [`bare_symbols_lack_names`] what
+//! symbols are without their names.
 mod hash_words;
 mod law;
 mod reloc;
@@ -17,7 +18,7 @@ mod symbol;
 mod tag;
 
 pub use hash_words::read_hash_words;
-pub use law::one_reading;
+pub use law::{bare_symbols_lack_names, one_reading};
 pub use reloc::{R_RISCV_JUMP_SLOT, RELOC_SIZE, read_relocs};
 pub use string::{MOST_NAME_BYTES, STRING_LIMIT, read_string, string_at, with_name};
 pub use symbol::{SYMBOL_SIZE, SymbolTable, read_symbols};

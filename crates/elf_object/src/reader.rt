@@ -22,7 +22,7 @@ use sym_hash::judge_table;
 fn with_versions(alloc: Global, symbols: Symbols, versym: &[u16]) -> Result<Symbols, AllocError>
     ensures { IfOk result (λ versioned. versioned ≡ with_versions symbols versym.now) }
 {
-    let mut versioned = Symbols::new(alloc);
+    let mut versioned = Symbols::with_capacity(alloc, symbols.len())?;
     for (index, symbol) in symbols.into_vec().into_iter().enumerate() {
         let version = versym.get(index).copied().unwrap_or(0);
         versioned.push(Symbol { version, ..symbol })?;

@@ -34,6 +34,20 @@ impl Symbols {
         }
     }
 
+    /// No symbol, with room for so many.
+    ///
+    /// # Errors
+    ///
+    /// Want of memory.
+    pub fn with_capacity(alloc: Global, count: u32) -> Result<Self, AllocError>
+        ensures { IfOk result (λ symbols. symbols ≡ []) }
+    {
+        let items = Vec::with_capacity(alloc, count as usize)?;
+        Ok(Symbols {
+            items: Sequence::from(items),
+        })
+    }
+
     /// How many symbols there are.
     pub fn len(&self) -> u32
         ensures len { result ≡ length self.now }

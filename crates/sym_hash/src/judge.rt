@@ -140,14 +140,6 @@ pub fn judge_table(
     ensures { Gives result (hash_verdict bytes.now head.now parts.now) }
 {
     let table = read_hash_words(alloc, bytes, head, parts.tags())?;
-    let symbols = parts.symbols();
-    let bare = symbols.bare(alloc)?;
-    let hashes = table_hashes(alloc, &table, &symbols)?;
-    judge(
-        alloc,
-        table,
-        bare.as_slice(),
-        &hashes,
-        parts.first_exported(),
-    )
+    let hashes = table_hashes(alloc, &table, &parts.symbols())?;
+    judge(alloc, table, parts.bare(), &hashes, parts.first_exported())
 }

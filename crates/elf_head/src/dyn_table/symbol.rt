@@ -4,7 +4,7 @@ ghost use Rattle.std.specs.Prelude.{◌≡◌, ◌+◌, ◌*◌, ◌<◌, ◌≤
 ghost use Rattle.std.specs.List.{slice_get};
 ghost use Rattle.ld_base.specs.declared.object.Symbol.{Symbol};
 ghost use Rattle.elf_head.specs.DynTable.Name.{string_in};
-ghost use Rattle.elf_head.specs.DynTable.Symbol.{bare_symbols, symbol_named, symbols_in, IsBare};
+ghost use Rattle.elf_head.specs.DynTable.Symbol.{bare_symbols, symbol_named, symbols_in};
 
 use crate::dyn_table::string::{read_string, string_at, with_name};
 use ld_base::{Name, Symbol, Symbols, field16, field32, field64};
@@ -36,7 +36,7 @@ pub fn read_symbols(alloc: Global, bytes: &[u8], count: u32) -> Result<Symbols, 
     requires { 24 * count ≤ length bytes.now }
     ensures { IfOk result (λ symbols. symbols ≡ bare_symbols bytes.now count) }
 {
-    let mut symbols = Symbols::new(alloc);
+    let mut symbols = Symbols::with_capacity(alloc, count)?;
     for index in 0..count {
         let at = SYMBOL_SIZE as usize * index as usize;
         symbols.push(symbol_at(bytes, at, Name::new(alloc, &[])?))?;
@@ -99,17 +99,6 @@ impl<'a> SymbolTable<'a> {
         }
     }
 
-    /// The symbols without their names, and with version 0.
-    ///
-    /// # Errors
-    ///
-    /// Want of memory.
-    pub fn bare(&self, alloc: Global) -> Result<Symbols, AllocError>
-        ensures { IfOk result (λ symbols. IsBare self.now symbols) }
-    {
-        read_symbols(alloc, self.bytes, self.count)
-    }
-
     /// The symbols with their names, and with version 0. More bytes of names than
     /// [`MOST_NAME_BYTES`](crate::dyn_table::MOST_NAME_BYTES) are want of memory.
     ///
@@ -134,7 +123,7 @@ fn read_named_symbols(
     requires { 24 * count ≤ length bytes.now }
     ensures { IfOk result (λ symbols. symbols ≡ symbols_in bytes.now strings.now count) }
 {
-    let mut symbols = Symbols::new(alloc);
+    let mut symbols = Symbols::with_capacity(alloc, count)?;
     let mut name_bytes = 0;
     for index in 0..count {
         let at = SYMBOL_SIZE as usize * index as usize;

@@ -21,10 +21,10 @@ impl<T: Copied> Copied for Option<T> {
 
 impl<T: Copied> Copied for Sequence<T> {
     fn copy(&self, alloc: Global) -> Result<Self, AllocError> {
-        let mut copies = Sequence::new(alloc);
+        let mut copies = Vec::with_capacity(alloc, self.len())?;
         for item in self.as_slice() {
             copies.push(item.copy(alloc)?)?;
         }
-        Ok(copies)
+        Ok(Sequence::from(copies))
     }
 }

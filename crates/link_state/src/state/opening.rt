@@ -80,7 +80,7 @@ impl LinkState {
         Ok(nothing(self.alloc))
     }
 
-    /// The new objects, in the memory of what their paths had last where that is the same.
+    /// The new objects, in the memory of those that were loaded before and say the same.
     ///
     /// # Errors
     ///
@@ -89,7 +89,7 @@ impl LinkState {
         ensures added { IfOk result (λ shared. shared ≡ added) }
         ensures same { self.new ≡ self.old }
     {
-        self.latest.share(self.alloc, added)
+        self.known.share(self.alloc, added)
     }
 
     /// An opening that isn't absent: what memory gets of its new objects.

@@ -11,8 +11,9 @@ unfolding table_verdict
 returns c =
     let table = c.in_ok-table.table in
     let read = c.in_ok-hashes in
-    let hashes = map_is (λ (s : Symbol). hash_by table s.name) c.symbols-symbols.result read.hashes.items read.ensures.length read.ensures.each in
-    let visible : map is_visible_definition c.as_slice.result.now ≡ map is_visible_definition c.symbols-symbols.result =
-    rw c.as_slice.ensures.value (bare_visible c.symbols-symbols.result c.in_ok-bare.bare c.in_ok-bare.ensures) in
-    rw (← c.tags.ensures, ← c.in_ok-table.ensures.words, ← c.symbols-symbols.ensures, ← visible, ← hashes, ← c.deref.ensures.value, ← c.first_exported.ensures)
+    let parts = c.args.parts.now in
+    let hashes = map_is (λ (s : Symbol). hash_by table s.name) c.symbols.result read.hashes.items read.ensures.length read.ensures.each in
+    let visible : map is_visible_definition c.bare.result.now ≡ map is_visible_definition parts.symbols =
+    bare_visible parts.symbols c.bare.result.now c.bare.ensures.nameless in
+    rw (← c.tags.ensures, ← c.in_ok-table.ensures.words, ← visible, ← c.symbols.ensures, ← hashes, ← c.deref.ensures.value, ← c.first_exported.ensures)
     c.judge.ensures

@@ -3,4 +3,4 @@ use Rattle.link_lists.proofs.record_copies.list.SequenceCopied.copy.Given as goa
 
 -- the copies are those of the first items
 abbrev pub invariant-loop-item : goal.invariant-loop-item
-invariant-loop-item g l = l.copies ≡ take l.item-index l.self
+invariant-loop-item g l = l.copies.items ≡ take l.item-index l.self
