@@ -26,6 +26,8 @@ pub struct SearchLists {
     /// Where the names of the versions of each object stand, in load order.
     names: Vec<VersionNames>,
     orders: NameOrders,
+    /// How many searches were asked for one by one.
+    searches: usize,
     scopes: KeptScopes,
 }
 
@@ -87,6 +89,7 @@ impl SearchLists {
             links,
             names,
             orders: NameOrders::new(alloc),
+            searches: 0,
             scopes: KeptScopes::new(alloc, global),
         })
     }
@@ -138,16 +141,16 @@ impl SearchLists {
         ensures lists { AreListsOf (seen view.now) self.new }
         ensures scopes { OnOk result (AreListed (seen view.now) first self.new) }
     {
-        self.orders.add_for(alloc, view, first)?;
-        self.scopes
-            .add_definers(alloc, view, relocations_from(view, first))?;
+        let searches = relocations_from(view, first);
+        self.orders.add_for(alloc, view, searches)?;
+        self.scopes.add_definers(alloc, view, searches)?;
         let end = view.objects.len() + view.added.len();
         let owners = Owners::between(alloc, view, first, end)?;
         let scopes = Scopes::of(alloc, view, &self.links, owners)?;
         self.scopes.add_all(alloc, &scopes, first, end)
     }
 
-    /// Makes the scope of the object with a serial, unless it is there.
+    /// Makes the scope of the object with a serial for one search, unless it is there.
     ///
     /// # Errors
     ///
@@ -157,10 +160,23 @@ impl SearchLists {
         ensures lists { AreListsOf (seen view.now) self.new }
         ensures scope { OnOk result (IsListed self.new owner) }
     {
+        self.note_search(alloc, view)?;
         match self.links.places.get(owner) {
             Some(place) => self.add_scope_at(alloc, view, place),
             None => Ok(()),
         }
+    }
+
+    /// Counts one search more. Whenever they have doubled, the orders are made that are worth it for so many.
+    fn note_search(&mut self, alloc: Global, view: &View) -> Result<(), AllocError>
+        requires { AreListsOf (seen view.now) self.old }
+        ensures { AreListsOf (seen view.now) self.new }
+    {
+        self.searches = self.searches.saturating_add(1);
+        if self.searches.is_power_of_two() {
+            self.orders.add_for(alloc, view, self.searches)?;
+        }
+        Ok(())
     }
 
     /// The same of the object at a place in load order.

@@ -65,17 +65,16 @@ impl NameOrders {
         self.by_place.get(&place)
     }
 
-    /// Makes those that are worth it for the references of the objects from a place on.
+    /// Makes those that are worth it for so many searches.
     pub(crate) fn add_for(
         &mut self,
         alloc: Global,
         view: &View,
-        first: usize,
+        searches: usize,
     ) -> Result<(), AllocError>
         requires { AreNameOrders (seen view.now) self.old }
         ensures { AreNameOrders (seen view.now) self.new }
     {
-        let searches = relocations_from(view, first);
         if searches < MANY {
             return Ok(());
         }
@@ -85,7 +84,7 @@ impl NameOrders {
         Ok(())
     }
 
-    /// Makes that of the object at a place, if it is worth it.
+    /// Makes that of the object at a place, if it is worth it and isn't there.
     fn add(
         &mut self,
         alloc: Global,
@@ -96,6 +95,9 @@ impl NameOrders {
         requires { AreNameOrders (seen view.now) self.old }
         ensures { AreNameOrders (seen view.now) self.new }
     {
+        if self.by_place.contains_key(&place) {
+            return Ok(());
+        }
         match object_at(view, place) {
             Some(object) if is_slow(object, searches) => self.add_of(alloc, view, place, object),
             _ => Ok(()),

@@ -8,7 +8,7 @@ use Rattle.scope_lists.proofs.lists.SearchLists.add_scopes.Goals as goal
 
 pub returns-clause-scopes : goal.returns-clause-scopes
 returns-clause-scopes c =
-    listed_from (seen c.args.view.now) c.args.first _ (record { links = c.args.self.now.links; names = c.args.self.now.names; orders = c.add_for.new.self; scopes = c.add_all.new.self }) c.add_all.result
+    listed_from (seen c.args.view.now) c.args.first _ (record { links = c.args.self.now.links; names = c.args.self.now.names; orders = c.add_for.new.self; searches = c.args.self.now.searches; scopes = c.add_all.new.self }) c.add_all.result
     (sym (length-append c.args.view.now.objects.now c.args.view.now.added.now)) (rw c.in_ok-scopes.ensures at c.add_all.ensures.there)
 
 pub returns-clause-lists : goal.returns-clause-lists
