@@ -121,6 +121,9 @@ pub(crate) fn missing_version(
 ) -> Result<Option<DlFault>, AllocError>
     ensures { IfOk result (λ fault. fault ≡ missing_version (seen view.now).objects added.now) }
 {
+    if added.is_empty() {
+        return Ok(None);
+    }
     let mut definers = Definers::of(alloc, view)?;
     first_fault(alloc, &mut definers, added)
 }
