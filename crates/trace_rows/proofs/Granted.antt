@@ -49,7 +49,7 @@ ImageLaw = (bytes : List ℕ) (program : Bool) (o : Object) (table : HashTable) 
 abbrev pub NamesLaw : Type 0
 NamesLaw = (bytes : List ℕ) (program : Bool) (o : Object) (table : HashTable) → (machine_of 0).verdict bytes program ≡ Ok (o, table) → IsTrue (names_own_symbols o)
 
-read_in : ReadLaw → (l : Lists) → IsHistory l → (ns : Namespace) (o : Loaded) → Contains l.namespaces ns → Contains ns.objects o → WasRead (machine_of l.harts) o
+pub read_in : ReadLaw → (l : Lists) → IsHistory l → (ns : Namespace) (o : Loaded) → Contains l.namespaces ns → Contains ns.objects o → WasRead (machine_of l.harts) o
 read_in read l kept ns o there inside = read (machine_of l.harts) kept.past kept.shows.lawful ns o
     (record { there = subst (λ (nss : List Namespace). Contains nss ns) kept.shows.state.namespaces there; inside = inside })
 

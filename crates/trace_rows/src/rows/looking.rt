@@ -17,9 +17,10 @@ use crate::rows::all;
 use crate::rows::blocks::{block_of, place};
 use crate::said::same_found;
 use address_space::NoRoom;
+use elf_object::one_object;
 use history_event::{SymAnswer, SymAsk};
 use history_journal::accepted_object;
-use history_state::symbols_are_stored;
+use history_state::{objects_are_read, symbols_are_stored};
 use ld_base::{Choice, DlFault, HartId, Serial, Want};
 use link_lists::Copied;
 use link_search::{SymFault, find_symbol, variable_in};
@@ -175,6 +176,9 @@ fn find(alloc: Global, replay: &Replay, ask: &SymAsk) -> Result<(Serial, u32), S
     ensures refused { IfErr result (λ e. (past : List Event) (hart : ℕ) → Shows past replay.now → IsTrue (has_namespace (after past) ask.now.ns)
         → IsSymFault (after past) hart ask.now e) }
 {
+    objects_are_read();
+    one_object();
+    replay.has_history();
     let want = want_of(alloc, ask)?;
     find_symbol(alloc, replay.namespaces(), ask, &want)
 }
