@@ -1,4 +1,3 @@
-pub mod BySerial
 pub mod Globals
 pub mod Searches
 pub mod Skips

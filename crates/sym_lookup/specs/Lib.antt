@@ -1,4 +1,3 @@
-pub mod BySerial
 pub mod Looking
 pub mod References
 pub mod SymFind

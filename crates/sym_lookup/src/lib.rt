@@ -9,13 +9,12 @@
 //! computed once. None of them takes memory, but for making [`References`].
 //!
 //! [`lookup_breadth`] and [`lookup_global`] give what `scope_rule::search_breadth` and `search_global` give: a name
-//! is looked up where dlsym does. Each object is asked by its hash table, and the objects are gone through no
-//! further than the search comes, so as to know each by its serial. That takes memory.
+//! is looked up where dlsym does. Each object is asked by its hash table, and known by its serial in one step: the
+//! places of all are noted first, which takes memory.
 //!
 //! `sym_find` follows the one chain of a hash table to which a name's hash leads ([`Find`]).
 #![tactic(auto)]
 
-mod by_serial;
 mod law;
 mod looking;
 mod names;

@@ -1,42 +1,29 @@
 //! Looking a name up that isn't a relocation's.
 
-ghost use Rattle.std.specs.Prelude.{◌≡◌, ◌∷◌, [], IfOk, OnOk};
+ghost use Rattle.std.specs.Prelude.{◌≡◌, ◌∷◌, [], IfOk};
 ghost use Rattle.scope_rule.specs.Choose.{first_with, pick_at};
+ghost use Rattle.scope_rule.specs.Places.{ArePlaces, serials_of};
 ghost use Rattle.scope_rule.specs.Searching.{in_breadth, in_global};
 ghost use Rattle.scope_rule.specs.Seen.{Seen, seen};
-ghost use Rattle.sym_lookup.specs.BySerial.{Knows};
 ghost use Rattle.sym_lookup.specs.Looking.{HaveTables};
 
-use crate::by_serial::BySerial;
 use crate::sym_find::{Asked, Find, Sought};
 use ld_base::{Serial, Want};
-use scope_rule::{View, breadth, linker_symbol};
+use scope_rule::{Places, View, breadth, linker_symbol};
 use std::alloc::{AllocError, Global};
 
 /// What an object of the namespace, or the linker's own, has for a name.
-///
-/// # Errors
-///
-/// Want of memory.
 #[tactic(auto, unfolding(scope_rule::specs::Choose::pick_at))]
-fn found_at(
-    view: &View,
-    known: &mut BySerial,
-    sought: &Sought,
-    serial: Serial,
-) -> Result<Option<u32>, AllocError>
+fn found_at(view: &View, places: &Places, sought: &Sought, serial: Serial) -> Option<u32>
     requires tables { HaveTables (seen view.now) }
-    requires knows { Knows (seen view.now) known.old }
-    ensures found { IfOk result (λ found. found ≡ pick_at (seen view.now) sought.now.name sought.now.want serial) }
-    ensures knows { OnOk result (Knows (seen view.now) known.new) }
+    requires places { ArePlaces (serials_of (seen view.now)) places.now }
+    ensures { result ≡ pick_at (seen view.now) sought.now.name sought.now.want serial }
 {
     if serial == Serial::LINKER {
-        return Ok(linker_symbol(sought.name()));
+        return linker_symbol(sought.name());
     }
-    match known.object(view, serial)? {
-        Some(loaded) => Ok(loaded.table.find_sought(&loaded.object, None, sought)),
-        None => Ok(None),
-    }
+    let loaded = places.object(view, serial)?;
+    loaded.table.find_sought(&loaded.object, None, sought)
 }
 
 /// The first of these objects that has a definition, with its symbol.
@@ -53,9 +40,9 @@ fn first_found(
     requires tables { HaveTables (seen view.now) }
     ensures { IfOk result (λ found. found ≡ first_with (pick_at (seen view.now) sought.now.name sought.now.want) serials.now) }
 {
-    let mut known = BySerial::new(alloc);
+    let places = Places::of(alloc, view)?;
     for serial in serials {
-        if let Some(index) = found_at(view, &mut known, sought, *serial)? {
+        if let Some(index) = found_at(view, &places, sought, *serial) {
             return Ok(Some((*serial, index)));
         }
     }
