@@ -11,13 +11,18 @@ use Rattle.history_event.specs.declared.event.Event.{Event}
 use Rattle.history_event.specs.declared.event.Event.TheVariants as events
 use Rattle.word_rule.specs.declared.view.KeeperView.{KeeperView}
 use Rattle.word_rule.specs.Views.{BeginsWith}
+use Rattle.history_state.specs.After.{after}
 use Rattle.history_state.specs.Setting.{Setting}
 use Rattle.link_state.specs.Table.{LinkTable}
 use Rattle.history_state.specs.Lemmas.Lists.{here, later, only_in}
 use Rattle.history_calls.specs.Laws.{hart_of, is_read_fault}
+use Rattle.hart_moves.specs.Due.{due}
+use Rattle.hart_moves.specs.Harts.{HartState}
+use Rattle.world_answers.specs.Openings.{TurnReadsNothing}
 use Rattle.world_turns.specs.Counts.{Counts, CountsJoin, ShowInCounts, is_missed, is_refused_for}
 use Rattle.link_keeper.specs.Attending.{NobodysCame}
 use Rattle.link_keeper.specs.Keeping.{KeepsState, OpensNothing, is_opening}
+use Rattle.link_keeper.specs.Serving.{ServedReadsNothing}
 
 not_refused : (of : DlFault → Bool) (e : Event) → is_opening e ≡ false → is_refused_for of e ≡ false
 not_refused of (events.Open hart ask answer) is = absurd (false≢true (sym is))
@@ -108,6 +113,12 @@ turn_shown join folders old between past journal own new first now settled same 
     subst (λ (es : List Event). ShowInCounts folders es first now) (sym (ap (drop (length old)) whole ∙ drop-append_seam old (settled.more ++ own)))
     (join folders settled.more own first first now (quiet_counts folders settled.more first (λ e there. nobodys_opening e (settled.nobodys e there)))
     (subst (λ (es : List Event). ShowInCounts folders es first now) its shown))
+
+-- a turn behind them that reads nothing
+pub unread_behind : (h : ℕ) (b : HartState) (k l m : KeeperView) (own past : List Event) → NobodysCame k.events l.events → l.events ≡ past → m.events ≡ l.events ++ own
+    → ((e : Event) → Contains own e → hart_of e ≡ Some h) → ServedReadsNothing h b k m → TurnReadsNothing (after past) (due (after past) b)
+unread_behind h b k l m own past settled same are of reads = subst (λ (es : List Event). TurnReadsNothing (after es) (due (after es) b)) (sym settled.are ∙ same)
+    (reads settled.more own (are ∙ ap (λ (es : List Event). es ++ own) settled.are ∙ append_assoc k.events settled.more own) settled.nobodys of)
 
 pub came_behind : (old between new : List Event) → NobodysCame old between → BeginsWith new between → BeginsWith new old
 came_behind old between new settled behind = (settled.more ++ behind.0, behind.1 ∙ ap (λ (es : List Event). es ++ behind.0) settled.are ∙ append_assoc old settled.more behind.0)

@@ -1,5 +1,5 @@
 -- A hart's turn under the lock, from the moment at which it calls. For the code of this crate alone.
-use Rattle.std.specs.Prelude.{◌≡◌, ℕ, ◌<◌, true, List, ◌++◌, None, IsSome}
+use Rattle.std.specs.Prelude.{◌≡◌, ℕ, ◌<◌, true, List, ◌++◌, Some, None, IsSome, Contains}
 use Rattle.history_event.specs.declared.event.Event.{Event}
 use Rattle.word_rule.specs.declared.entry.Entry.{Entry}
 use Rattle.word_rule.specs.declared.view.HartView.{HartView}
@@ -7,15 +7,19 @@ use Rattle.word_rule.specs.declared.view.KeeperView.{KeeperView}
 use Rattle.word_rule.specs.declared.view.TrailItem.{TrailItem}
 use Rattle.history_state.specs.After.{after}
 use Rattle.history_state.specs.Setting.{Setting}
+use Rattle.history_calls.specs.Laws.{hart_of}
 use Rattle.hart_fits.specs.Fits.{HartFits}
 use Rattle.hart_linker.specs.Between.{IsAtRow}
+use Rattle.hart_moves.specs.Due.{due}
 use Rattle.hart_moves.specs.Harts.{HartState}
 use Rattle.hart_moves.specs.Moves.{Did, events_of}
 use Rattle.hart_moves.specs.Trails.{beside_of}
+use Rattle.hart_trails.specs.Owners.{AreNobodys}
 use Rattle.hart_trails.specs.Trails.{Leaves, Reads}
 use Rattle.link_state.specs.Table.{LinkTable}
 use Rattle.tls_blocks.specs.Numbers.{module_at}
 use Rattle.world_memory.specs.declared.turn_answers.answered.MemoryChange.{MemoryChange}
+use Rattle.world_answers.specs.Openings.{TurnReadsNothing}
 use Rattle.link_keeper.specs.Acting.{Acts}
 use Rattle.link_keeper.specs.Handing.{IsPassed, is_stored}
 use Rattle.link_keeper.specs.declared.acting.Reply.{Reply}
@@ -38,3 +42,11 @@ pub record IsHandedOver (w : Setting) (begun : List Event) (k l : KeeperView) (h
   pub generation : first.generation ≡ (after l.events).generation
   pub room : is_stored first ≡ true → 0 < spare
   pub there : is_stored first ≡ true → IsSome (module_at (after l.events).modules first.slot)
+
+-- ---- what is read for it
+
+-- the turn by which the keeper went from one view to the other reads nothing: behind the grants that were settled first its hart waits still, or calls for
+-- no opening, or for one that needs no file. What comes behind these grants are the hart's own events
+abbrev pub ServedReadsNothing : ℕ → HartState → KeeperView → KeeperView → Type 0
+ServedReadsNothing h b k l = (settled own : List Event) → l.events ≡ k.events ++ (settled ++ own) → AreNobodys settled
+    → ((e : Event) → Contains own e → hart_of e ≡ Some h) → TurnReadsNothing (after (k.events ++ settled)) (due (after (k.events ++ settled)) b)

@@ -19,6 +19,7 @@ ghost use Rattle.link_state.specs.Table.{appended};
 ghost use Rattle.world_answers.specs.Answers.{is_service};
 ghost use Rattle.world_answers.specs.Faults.{tls_end};
 ghost use Rattle.world_answers.specs.GuestsPart.GuestWorlds.Worlds.{MayEndNow};
+ghost use Rattle.world_answers.specs.Openings.{TurnReadsNothing};
 ghost use Rattle.world_memory.specs.declared.turn_answers.answered.MemoryChange.TheVariants as change;
 ghost use Rattle.world_turns.specs.Counts.{ShowInCounts};
 
@@ -85,6 +86,7 @@ pub(crate) fn act<J: Opening, L: Library>(
     ensures acts { Acts J.setting state.old.events state.new id hart.old.hart hart.new.hart blocks.new.spare result.change result.reply }
     ensures shown { ShowInCounts folders.now (drop (length state.old.events) state.new.events)
         (record { faults = L.faults library.old; misses = L.misses library.old }) (record { faults = L.faults library.new; misses = L.misses library.new }) }
+    ensures unread { TurnReadsNothing (after state.old.events) (due (after state.old.events) hart.old.hart) → library.new ≡ library.old }
     ensures files { L.files library.new ≡ L.files library.old }
     ensures entries { blocks.new.entries ≡ blocks.old.entries }
     ensures generation { blocks.new.generation ≡ blocks.old.generation }
@@ -135,6 +137,7 @@ fn call<J: Opening, L: Library>(
     ensures acts { Acts J.setting state.old.events state.new id hart.old.hart hart.new.hart blocks.new.spare result.change result.reply }
     ensures shown { ShowInCounts folders.now (drop (length state.old.events) state.new.events)
         (record { faults = L.faults library.old; misses = L.misses library.old }) (record { faults = L.faults library.new; misses = L.misses library.new }) }
+    ensures unread { TurnReadsNothing (after state.old.events) (due (after state.old.events) hart.old.hart) → library.new ≡ library.old }
     ensures files { L.files library.new ≡ L.files library.old }
     ensures entries { blocks.new.entries ≡ blocks.old.entries }
     ensures generation { blocks.new.generation ≡ blocks.old.generation }
@@ -294,6 +297,7 @@ fn ask<J: Opening, L: Library>(
         → Acts J.setting state.old.events state.new id hart.old.hart hart.new.hart spare result.change result.reply }
     ensures shown { ShowInCounts folders.now (drop (length state.old.events) state.new.events)
         (record { faults = L.faults library.old; misses = L.misses library.old }) (record { faults = L.faults library.new; misses = L.misses library.new }) }
+    ensures unread { TurnReadsNothing (after state.old.events) (due (after state.old.events) hart.old.hart) → library.new ≡ library.old }
     ensures files { L.files library.new ≡ L.files library.old }
     ensures harts { state.new.harts ≡ state.old.harts }
 {

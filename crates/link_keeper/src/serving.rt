@@ -8,6 +8,7 @@ ghost use Rattle.history_calls.specs.CallLaws.Coming.{IsOver};
 ghost use Rattle.history_journal.specs.Following.{machine_of};
 ghost use Rattle.history_state.specs.State.{State};
 ghost use Rattle.link_keeper.specs.Keeping.{KeepsState};
+ghost use Rattle.link_keeper.specs.Serving.{ServedReadsNothing};
 ghost use Rattle.link_keeper.specs.Settling.{SettlesFirst};
 ghost use Rattle.word_rule.specs.Views.{BeginsWith};
 ghost use Rattle.world_turns.specs.Counts.{ShowInCounts};
@@ -54,6 +55,7 @@ pub(crate) fn serve_hart<R: Wait, J: Opening, L: Library>(
     ensures between { IsBetweenTurns J.setting J.journal seat.new hart.new.hart blocks.new }
     ensures shown { ShowInCounts folders.now (drop (length keeper.old.events) keeper.new.events)
         (record { faults = L.faults library.old; misses = L.misses library.old }) (record { faults = L.faults library.new; misses = L.misses library.new }) }
+    ensures unread { ServedReadsNothing seat.old.number hart.old.hart keeper.old keeper.new → library.new ≡ library.old }
     ensures files { L.files library.new ≡ L.files library.old }
 {
     harts_fit();

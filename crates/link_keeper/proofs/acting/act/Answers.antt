@@ -8,6 +8,7 @@ use Rattle.hart_moves.specs.Moves.{freed, spent}
 use Rattle.hart_moves.specs.Waiting.{awaiting}
 use Rattle.link_state.specs.Table.{LinkTable}
 use Rattle.world_memory.specs.declared.turn_answers.answered.MemoryChange.TheVariants as change
+use Rattle.world_answers.specs.Openings.{TurnReadsNothing}
 use Rattle.link_keeper.specs.declared.acting.Reply.TheVariants as reply
 use Rattle.link_keeper.proofs.Premises.{carried_call, free, passes_here}
 use Rattle.link_keeper.proofs.Taken.{carried_acts, carried_due, carried_shown, complete_acts, complete_shown, waits_act, waits_shown}
@@ -61,3 +62,9 @@ returns-in-None-clause-shown g c = carried_shown c.args.folders.now c.args.state
     (record { faults = g.L.Library.faults c.args.library.now; misses = g.L.Library.misses c.args.library.now })
     (record { faults = g.L.Library.faults c.call.new.library; misses = g.L.Library.misses c.call.new.library })
     (c.complete.ensures.other c.if-complete.false).0 c.call.ensures.shown
+
+pub returns-in-None-clause-unread : goal.returns-in-None-clause-unread
+returns-in-None-clause-unread g c = λ reads.
+    let other = c.complete.ensures.other c.if-complete.false in
+    c.call.ensures.unread (subst (λ (b : HartState). TurnReadsNothing (after c.complete.new.state.events) (due (after c.complete.new.state.events) b)) (sym other.1)
+    (subst (λ (t : LinkTable). TurnReadsNothing (after t.events) (due (after t.events) c.args.hart.now.hart)) (sym other.0) reads))

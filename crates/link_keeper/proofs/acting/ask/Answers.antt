@@ -96,6 +96,7 @@ returns-in_default g c =
           (record { faults = came.ensures.faults; misses = came.ensures.misses }) x.moves x.are events
           (refused_alone w came.new.state past h b left f came.new.state.made came.result t c.requires.other rest c.take_answer.new.state c.take_answer.result c.take_answer.ensures.noted x)
           came.ensures.counts;
+      unread = came.ensures.unread;
       files = came.ensures.files;
       harts = c.take_answer.ensures.harts ∙ came.ensures.harts;
     }

@@ -42,6 +42,7 @@ returns-in_default g c = record {
         ∙ asks_it c.args.hart.now.hart (due (after c.args.state.now.events) c.args.hart.now.hart) c.storage_of-asked.result (c.storage_of-asked.ensures (after c.args.state.now.events) c.requires.may.calls) gives))
   ]);
   shown = c.ask.ensures.shown;
+  unread = c.ask.ensures.unread;
   files = c.ask.ensures.files;
   entries = elim c.else-asks_storage.branch [
     | else-asks_storage-via-then-asks_storage+else-is_err x ↦ ap (λ (t : BlockTable). t.entries) x.blocks-is ∙ x.make_room.ensures.entries

@@ -6,7 +6,7 @@ use Rattle.hart_moves.specs.Lemmas.Legality.{turns_own}
 use Rattle.hart_moves.specs.Moves.{events_of}
 use Rattle.link_keeper.proofs.Left.{own_behind_settled}
 use Rattle.link_keeper.proofs.Served.{asks_idle, between_now, is_taken, journal_is, keeps_now, kept_now, may_act, may_hand_over, module_there, serves_turn}
-use Rattle.link_keeper.proofs.Shown.{came_behind, turn_shown}
+use Rattle.link_keeper.proofs.Shown.{came_behind, turn_shown, unread_behind}
 use Rattle.link_keeper.proofs.serving.serve_hart.Goals as goal
 
 pub attend-requires-clause-calling : goal.attend-requires-clause-calling
@@ -144,3 +144,15 @@ returns-clause-shown g c =
     (sym (journal_is g.J.Opening.setting g.J.Opening.journal c.act-acted.new.state c.attend.new.keeper c.pass-entry.new.keeper c.attend.new.seat c.pass-entry.new.seat c.id_of-id.result
     c.args.hart.now.hart c.act-acted.new.hart.hart c.act-acted.new.blocks.spare c.act-acted.result.change c.act-acted.result.reply c.pass-entry.result turn over))
     over.passed.events c.act-acted.ensures.shown
+
+pub returns-clause-unread : goal.returns-clause-unread
+returns-clause-unread g c = λ reads.
+    let turn = is_taken c.harts_fit.ensures.others g.J.Opening.setting g.J.Opening.journal c.attend.new.state c.attend.new.keeper c.args.seat.now c.attend.new.seat c.id_of-id.result
+    c.args.hart.now.hart c.args.blocks.now c.attend.ensures.keeps c.requires.between
+    c.id_of-id.ensures c.requires.asks c.attend.ensures.attends
+    c.act-acted.new.state c.act-acted.new.hart.hart c.act-acted.new.blocks.spare c.act-acted.result.change c.act-acted.result.reply c.act-acted.ensures.acts in
+    let over = c.pass-entry.ensures c.args.hart.now.hart c.act-acted.new.hart.hart c.act-acted.new.blocks.spare turn in
+    c.act-acted.ensures.unread (unread_behind c.args.seat.now.number c.args.hart.now.hart c.args.keeper.now c.attend.new.keeper c.pass-entry.new.keeper (events_of turn.acts.did)
+    c.attend.new.state.events c.attend.ensures.settled c.attend.ensures.keeps.same over.passed.events
+    (λ e there. turns_own g.J.Opening.setting c.attend.new.keeper.events c.id_of-id.result c.args.hart.now.hart c.act-acted.new.hart.hart turn.acts.did turn.acts.moves e there
+    ∙ ap (λ (n : ℕ). Some n) c.id_of-id.ensures) reads)
