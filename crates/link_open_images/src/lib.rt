@@ -15,6 +15,7 @@ mod images;
 mod new_blocks;
 mod object_bindings;
 mod opening_steps;
+mod sight;
 mod slots;
 
 pub use area_images::area_image;
@@ -23,6 +24,5 @@ pub use new_blocks::{
     BlockFault, NewBlock, areas_have_words, blocks_begin_as_kept, harts_have_new_blocks, new_block,
     new_blocks_are_installed,
 };
-pub use object_bindings::{Made, bindings_of};
 pub use opening_steps::{edges_of, hold_all, keep_all, modules_with, parts_of, reserve_all};
 pub use slots::slots_of;

@@ -10,5 +10,5 @@ mod binding;
 mod copying;
 mod definitions;
 
-pub use binding::bindings_of;
-pub use copying::Made;
+pub(crate) use binding::bindings_of;
+pub(crate) use copying::Made;

@@ -8,7 +8,6 @@ use Rattle.ld_base.specs.declared.object.TlsSeg.{TlsSeg}
 use Rattle.history_event.specs.declared.event.Event.{Event}
 use Rattle.history_event.specs.declared.event.Purpose.TheVariants as purposes
 use Rattle.history_event.specs.declared.event.Range.{Range}
-use Rattle.history_event.specs.declared.state.Block.{Block}
 use Rattle.history_event.specs.declared.state.Module.{Module}
 use Rattle.history_state.specs.State.{Linked, State}
 use Rattle.history_state.specs.After.{after}

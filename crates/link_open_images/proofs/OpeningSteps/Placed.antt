@@ -1,5 +1,5 @@
 -- The places of new modules.
-use Rattle.std.proofs.Common.{◌≡◌, ℕ, ◌+◌, ◌<◌, ◌≤◌, Bool, true, false, not, List, [], ◌∷◌, length, Option, Some, None, refl, sym, ap, subst, ◌∙◌, arith}
+use Rattle.std.proofs.Common.{◌≡◌, ℕ, ◌+◌, ◌<◌, Bool, true, false, not, List, [], ◌∷◌, length, Option, Some, None, refl, sym, ap, subst, ◌∙◌, arith}
 use Rattle.std.specs.Prelude.{IsSomeAnd, IsTrue, if◌then◌else◌}
 use Rattle.std.specs.List.{filter}
 use Rattle.std.specs.Option.{option_map_or}
@@ -9,8 +9,8 @@ use Rattle.ld_base.specs.declared.object.TlsSeg.{TlsSeg}
 use Rattle.history_event.specs.declared.state.Module.{Module}
 use Rattle.history_state.specs.State.{Statics}
 use Rattle.history_state.specs.Step.{has_module}
-use Rattle.history_state.specs.Storage.{HaveModules, IsPlaceOf, IsStaticOffset, module_of_place, statics_with, statics_with_one, with_modules, with_place}
-use Rattle.tls_blocks.specs.Numbers.{IsLeastFree, IsTaken, ModuleTable, with_module}
+use Rattle.history_state.specs.Storage.{HaveModules, IsPlaceOf, IsStaticOffset, module_of_place, statics_with, statics_with_one, with_place}
+use Rattle.tls_blocks.specs.Numbers.{IsLeastFree, ModuleTable, with_module}
 use Rattle.tls_blocks.specs.Places.{IsOffset, end_with, tp_with}
 use Rattle.link_open_images.specs.OpeningSteps.Steps.{statics_after, statics_of}
 

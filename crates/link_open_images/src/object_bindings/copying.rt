@@ -16,10 +16,10 @@ use std::alloc::{AllocError, Global};
 /// Objects whose images were made, an image an object, with the modules' places by which they were
 /// relocated.
 #[derive(Clone, Copy)]
-pub struct Made<'a> {
-    pub objects: &'a [Loaded],
-    pub images: &'a [Image],
-    pub places: &'a TlsPlaces,
+pub(crate) struct Made<'a> {
+    pub(crate) objects: &'a [Loaded],
+    pub(crate) images: &'a [Image],
+    pub(crate) places: &'a TlsPlaces,
 }
 
 /// So many bytes of an object's image from an address on: none where the object's image isn't there.

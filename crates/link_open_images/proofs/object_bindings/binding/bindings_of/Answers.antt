@@ -3,19 +3,19 @@ use Rattle.std.specs.List.{range_with_len}
 use Rattle.history_state.specs.Bound.{no_binding}
 use Rattle.relocator.specs.declared.binding.Binding.{Binding}
 use Rattle.scope_rule.specs.Relocation.{choice_at}
-use Rattle.scope_rule.specs.Seen.{Seen, seen}
+use Rattle.scope_rule.specs.Seen.{Seen}
 use Rattle.link_open_images.specs.ObjectBindings.Bindings.{Copies, binding_in, bindings_in, copies_from, rela_binding}
 use Rattle.link_open_images.proofs.ObjectBindings.Lists.{all_alike, can_read, slots_bound, slots_lazy}
 use Rattle.link_open_images.proofs.object_bindings.binding.bindings_of.Goals.{then-binds_now+in_ok-push_bound, else-binds_now+in_ok-push_lazy}
 use Rattle.link_open_images.proofs.object_bindings.binding.bindings_of.Goals as goal
 
 pub push_relas-requires-clause-read : goal.push_relas-requires-clause-read
-push_relas-requires-clause-read c = can_read (seen c.args.view.now) c.args.now c.args.made.now.places.now c.args.made.now.objects.now c.args.made.now.images.now c.requires.made
+push_relas-requires-clause-read c = can_read c.args.sight.now c.args.now c.args.made.now.places.now c.args.made.now.objects.now c.args.made.now.images.now c.requires.made
 
 pub returns : goal.returns
 unfolding bindings_in
 returns c =
-    let ns : Seen = seen c.args.view.now in
+    let ns : Seen = c.args.sight.now in
     let bytes : Copies = copies_from ns c.args.now c.args.made.now.places.now c.args.made.now.objects.now in
     let relas : List Binding = map (rela_binding bytes ns c.args.owner.now) c.args.owner.now.object.relocs in
     let first : c.push_relas.new.bindings ≡ relas = c.in_ok-push_relas.ensures c.args.now c.requires.made ∙ ap (λ (bs : List Binding). bs ++ relas) c.new-bindings.ensures in

@@ -1,9 +1,8 @@
 use Rattle.std.proofs.Common.{◌≡◌, Bool, ◌++◌, map, take}
-use Rattle.scope_rule.specs.Seen.{seen}
 use Rattle.link_open_images.specs.ObjectBindings.Bindings.{AreMade, copies_from, rela_binding}
 use Rattle.link_open_images.proofs.object_bindings.binding.push_relas.Given as goal
 
 -- those of the relocations in front
 abbrev pub invariant-loop-index : goal.invariant-loop-index
-invariant-loop-index l = (now : Bool) → AreMade (seen l.view) now l.made.places.now l.made.objects.now l.made.images.now
-    → l.bindings ≡ l.initial.bindings ++ map (rela_binding (copies_from (seen l.view) now l.made.places.now l.made.objects.now) (seen l.view) l.owner) (take l.index l.reloc-items)
+invariant-loop-index l = (now : Bool) → AreMade l.sight now l.made.places.now l.made.objects.now l.made.images.now
+    → l.bindings ≡ l.initial.bindings ++ map (rela_binding (copies_from l.sight now l.made.places.now l.made.objects.now) l.sight l.owner) (take l.index l.reloc-items)

@@ -1,4 +1,4 @@
-use Rattle.std.proofs.Common.{◌≡◌, ◌≤◌, [], drop, length, ◌∙◌, arith}
+use Rattle.std.proofs.Common.{◌≤◌, drop, length, ◌∙◌, arith}
 use Rattle.std.proofs.lemmas.List.{drop_all}
 use Rattle.link_open_images.proofs.OpeningSteps.Chosen.{among_none, as_chosen, edges_among}
 use Rattle.link_open_images.proofs.opening_steps.edges.edges_of.Goals as goal

@@ -1,7 +1,6 @@
-use Rattle.std.proofs.Common.{◌≡◌, Some, ap, ◌∙◌}
-use Rattle.ld_base.specs.declared.linking.TlsPlace.{TlsPlace}
+use Rattle.std.proofs.Common.{◌≡◌, Some}
 use Rattle.link_open_images.specs.OpeningSteps.Steps.{statics_of}
-use Rattle.link_open_images.proofs.OpeningSteps.Placed.{no_place, none_more, one_more, one_place, place_none, placed_is, statics_are, statics_none}
+use Rattle.link_open_images.proofs.OpeningSteps.Placed.{one_place, placed_is}
 use Rattle.link_open_images.proofs.opening_steps.modules.add_module.Goals as goal
 
 pub add-requires-clause-align : goal.add-requires-clause-align

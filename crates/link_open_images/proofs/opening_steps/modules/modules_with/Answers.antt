@@ -1,7 +1,6 @@
-use Rattle.std.proofs.Common.{◌≡◌, ◌<◌, ◌+◌, List, ◌∷◌, drop, get_or, length, sym, ap, ◌∙◌, arith}
+use Rattle.std.proofs.Common.{◌≡◌, ◌<◌, ◌+◌, List, ◌∷◌, drop, length, sym, ap, ◌∙◌, arith}
 use Rattle.std.proofs.lemmas.List.{drop_more}
 use Rattle.ld_base.specs.declared.linking.Loaded.{Loaded}
-use Rattle.history_event.specs.declared.state.Module.{Module}
 use Rattle.history_state.specs.Storage.{with_modules}
 use Rattle.link_open_images.specs.OpeningSteps.Steps.{statics_of}
 use Rattle.link_open_images.proofs.OpeningSteps.Placed.{generation_more, have_more, statics_more}

@@ -1,11 +1,10 @@
-use Rattle.std.proofs.Common.{◌≡◌, ◌<◌, ◌+◌, List, [], ◌∷◌, ◌++◌, length, map, take, get_or, Some, sym, ap, ◌∙◌, arith}
+use Rattle.std.proofs.Common.{◌≡◌, ◌<◌, List, [], ◌∷◌, ◌++◌, length, map, take, Some, sym, ap, ◌∙◌, arith}
 use Rattle.std.specs.List.{slice_get}
 use Rattle.std.proofs.lemmas.List.{map-append, take_more}
 use Rattle.std.proofs.lemmas.Option.{slice_get-get_or}
 use Rattle.link_images.specs.Parts.{part_of}
 use Rattle.link_images.specs.declared.parts.Part.{Part}
 use Rattle.ld_base.specs.declared.linking.Loaded.{Loaded}
-use Rattle.history_state.specs.State.{Linked}
 use Rattle.seg_image.specs.declared.image.Image.{Image}
 use Rattle.link_open_images.proofs.opening_steps.parts.parts_of.Goals as goal
 

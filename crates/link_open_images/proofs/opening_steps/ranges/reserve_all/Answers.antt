@@ -1,4 +1,4 @@
-use Rattle.std.proofs.Common.{◌<◌, ◌++◌, List, take, length, get_or, sym, subst, arith}
+use Rattle.std.proofs.Common.{◌<◌, ◌++◌, List, take, length, sym, subst, arith}
 use Rattle.address_space.specs.Pages.{AllFree}
 use Rattle.history_event.specs.declared.event.Range.{Range}
 use Rattle.history_state.specs.Areas.{free_pages}

@@ -9,8 +9,8 @@ use Rattle.link_open_images.specs.Lemmas.Libraries.{copies_alike}
 use Rattle.link_open_images.proofs.Places.{behind_at, if_ok, relocated_all, rest_is, split}
 use Rattle.relocator.specs.Bindings.{is_copy}
 use Rattle.relocator.specs.declared.binding.Binding.{Binding}
-use Rattle.scope_rule.specs.Seen.{Seen, seen}
-use Rattle.link_open_images.proofs.images.images_of.Goals as goal
+use Rattle.scope_rule.specs.Seen.{Seen}
+use Rattle.link_open_images.proofs.images.images_over.Goals as goal
 
 pub images_behind-requires-clause-first : goal.images_behind-requires-clause-first
 images_behind-requires-clause-first c =
@@ -18,12 +18,12 @@ images_behind-requires-clause-first c =
     let at : slice_get c.args.objects.now 0 ≡ Some c.index-objects-0.result =
     slice_get-get_or c.args.objects.now 0 c.index-objects-0.result some ∙ ap (λ (o : Loaded). Some o) (sym c.index-objects-0.is) in
     subst (λ (rest : List Loaded). MayRelocate c.index-objects-0.result
-    (bindings_in (copies_from (seen c.args.view.now) c.args.now c.args.places.now rest) (seen c.args.view.now) c.args.now c.index-objects-0.result) c.args.places.now)
+    (bindings_in (copies_from c.args.sight.now c.args.now c.args.places.now rest) c.args.sight.now c.args.now c.index-objects-0.result) c.args.places.now)
     (sym (rest_is c.args.objects.now)) (c.requires.may.each 0 c.index-objects-0.result at)
 
 pub images_behind-requires-clause-rest : goal.images_behind-requires-clause-rest
 images_behind-requires-clause-rest c = λ k o at.
-    let ns : Seen = seen c.args.view.now in
+    let ns : Seen = c.args.sight.now in
     let some : 0 < length c.args.objects.now = grind (arith, c.is_empty.ensures, c.if-is_empty.false) in
     let rest : List Loaded = take (length c.args.objects.now - 1) (drop 1 c.args.objects.now) in
     let are : c.args.objects.now ≡ get_or c.args.objects.now 0 c.index-objects-0.result ∷ rest = split c.args.objects.now c.index-objects-0.result some in
@@ -35,7 +35,7 @@ images_behind-requires-clause-rest c = λ k o at.
 
 pub returns : goal.returns
 returns c =
-    let ns : Seen = seen c.args.view.now in
+    let ns : Seen = c.args.sight.now in
     let some : 0 < length c.args.objects.now = grind (arith, c.is_empty.ensures, c.if-is_empty.false) in
     let rest : List Loaded = take (length c.args.objects.now - 1) (drop 1 c.args.objects.now) in
     let first : Loaded = c.index-objects-0.result in
