@@ -1,5 +1,5 @@
 -- Grants are settled.
-use Rattle.std.proofs.Common.{◌≡◌, ◌≢◌, ◌⊎◌, ⊎_elim, inl, inr, ℕ, ◌+◌, ◌%◌, ◌<◌, ◌&&◌, Bool, true, ne_eqb, if◌then◌else◌, List, [], ◌∷◌, ◌++◌, map, Option, None, Some, refl, sym, ap, subst, ◌∙◌, append-nil, append_assoc, arith}
+use Rattle.std.proofs.Common.{◌≡◌, ◌≢◌, ◌⊎◌, ⊎_elim, inl, inr, ℕ, ◌+◌, ◌%◌, ◌≤◌, ◌<◌, ◌&&◌, Bool, true, ne_eqb, if◌then◌else◌, List, [], ◌∷◌, ◌++◌, length, length-append, map, Option, None, Some, refl, sym, ap, subst, ◌∙◌, append-nil, append_assoc, arith}
 use mathlib.Core.Logic.{dite}
 use native.Mathlib.Decide.{ℕ_discrete}
 use Rattle.std.specs.List.{Contains}
@@ -13,6 +13,7 @@ use Rattle.word_rule.specs.declared.entry.Grant.{Grant}
 use Rattle.word_rule.specs.declared.view.Fate.{Fate}
 use Rattle.word_rule.specs.declared.view.Fate.TheVariants.{Won as FateWon, Lost as FateLost}
 use Rattle.word_rule.specs.declared.view.KeeperView.{KeeperView}
+use Rattle.word_rule.specs.declared.view.OpenRow.{OpenRow}
 use Rattle.word_rule.specs.declared.view.Row.{Row}
 use Rattle.word_rule.specs.Allowed.{IsWon}
 use Rattle.word_rule.specs.KeeperSteps.{TellsAsk, settled_as}
@@ -48,6 +49,7 @@ use Rattle.kept_words.specs.Staying.{fated_in, number_in}
 use Rattle.link_keeper.proofs.Kept.{inside, later_event, later_number, row_field}
 use Rattle.link_keeper.specs.Finishing.{IsSettlingOf, SettledUpTo}
 use Rattle.link_keeper.specs.Keeping.{AreOpen, FirstGoesOn, KeepsState, WasOver}
+use Rattle.link_keeper.specs.Rounds.{CameAmong, WasFoundOpen}
 use Rattle.link_keeper.specs.Settling.{HasSettled, IsFoundOpen, SettlesOne}
 
 -- where a list with one more element is split, the split is before that, or at it
@@ -208,6 +210,7 @@ module _ (w : Setting) (begun : List Event) (state : LinkTable) (k : KeeperView)
       found = λ p waits. absurd ((was_waiting h p waits).0 refl);
       opens = [];
       opened = opens ∙ sym (append-nil k.opens);
+      now = λ x there. absurd (none_in x there);
       left_open = λ p waits. absurd ((was_waiting h p waits).0 refl);
     }
 
@@ -274,10 +277,39 @@ module _ (w : Setting) (begun : List Event) (state : LinkTable) (k : KeeperView)
     found = λ p waits. absurd (none_pending id low none p waits);
     opens = [];
     opened = sym (append-nil k.opens);
+    now = λ x there. absurd (none_in x there);
     left_open = λ p waits. absurd (none_pending id low none p waits);
   }
 
 -- ---- one row after another
+
+-- times at which a hart was asked, in two stretches of a settling
+among_more : (past mid first second : List Event) (a b : List OpenRow) → mid ≡ past ++ first → CameAmong past first a → CameAmong mid second b
+    → CameAmong past (first ++ second) (a ++ b)
+among_more past mid first second a b are one two x there =
+    let all : length (past ++ (first ++ second)) ≡ length past + length (first ++ second) = length-append past (first ++ second) in
+    let both : length (first ++ second) ≡ length first + length second = length-append first second in
+    let least : length mid ≡ length past + length first = ap length are ∙ length-append past first in
+    let most : length (mid ++ second) ≡ length mid + length second = length-append mid second in
+    let middle : length (past ++ first) ≡ length past + length first = length-append past first in
+    ⊎_elim
+    (λ (old : Contains a x). let low : length past ≤ x.number = (one x old).0 in let high : x.number ≤ length (past ++ first) = (one x old).1 in (low, omega (arith, high, all, both, middle)))
+    (λ (new : Contains b x). let low : length mid ≤ x.number = (two x new).0 in let high : x.number ≤ length (mid ++ second) = (two x new).1 in
+    (omega (arith, low, least), omega (arith, high, all, both, least, most)))
+    (Contains-append_cases a b x there)
+
+-- a time at which nothing was new
+asked_once : (h : ℕ) (past : List Event) → CameAmong past [] (record { hart = h; number = length past } ∷ [])
+asked_once h past x there =
+    let low : length past ≤ length past = omega arith in
+    subst (λ (y : OpenRow). (length past ≤ y.number) × (y.number ≤ length (past ++ []))) (only_in (record { hart = h; number = length past }) x there)
+    (low, subst (λ (es : List Event). length past ≤ length es) (sym (append-nil past)) low)
+
+found_left : (a b : List OpenRow) (m : ℕ) → WasFoundOpen m a → WasFoundOpen m (a ++ b)
+found_left a b m (x, there, of) = (x, Contains-append_left a b x there, of)
+
+found_right : (a b : List OpenRow) (m : ℕ) → WasFoundOpen m b → WasFoundOpen m (a ++ b)
+found_right a b m (x, there, of) = (x, Contains-append_right a b x there, of)
 
 pub settles_nothing : (k : KeeperView) → HasSettled 0 k k
 settles_nothing k = record {
@@ -292,6 +324,7 @@ settles_nothing k = record {
   found = λ m low. absurd (omega (arith, low));
   opens = [];
   opened = sym (append-nil k.opens);
+  now = λ x there. absurd (none_in x there);
   left_open = λ m g low. absurd (omega (arith, low));
 }
 
@@ -313,11 +346,12 @@ settles_more n k l m all one = record {
       (λ (same : j ≡ n). subst (λ (i : ℕ). IsFoundOpen (row_of m i)) (sym same) one.found)
       (λ (apart : j ≢ n). subst IsFoundOpen (sym (one.others j apart)) (all.found j (let more : j < n + 1 = low in omega (arith, more, apart))));
   opens = all.opens ++ one.opens;
-  opened = one.opened ∙ ap (λ (ms : List ℕ). ms ++ one.opens) all.opened ∙ append_assoc k.opens all.opens one.opens;
+  opened = one.opened ∙ ap (λ (xs : List OpenRow). xs ++ one.opens) all.opened ∙ append_assoc k.opens all.opens one.opens;
+  now = among_more k.events l.events all.more one.more all.opens one.opens all.events all.now one.now;
   left_open = λ j g low waits. dite (ℕ_discrete j n)
-      (λ (same : j ≡ n). subst (Contains (all.opens ++ one.opens)) (sym same)
-      (Contains-append_right all.opens one.opens n (one.left_open g (sym (ap (λ (i : ℕ). (row_of m i).pending) same) ∙ waits))))
-      (λ (apart : j ≢ n). Contains-append_left all.opens one.opens j
+      (λ (same : j ≡ n). found_right all.opens one.opens j
+      (subst (λ (i : ℕ). WasFoundOpen i one.opens) (sym same) (one.left_open g (sym (ap (λ (i : ℕ). (row_of m i).pending) same) ∙ waits))))
+      (λ (apart : j ≢ n). found_left all.opens one.opens j
       (all.left_open j g (let more : j < n + 1 = low in omega (arith, more, apart)) (sym (ap (λ (r : Row). r.pending) (one.others j apart)) ∙ waits)));
 }
 
@@ -380,9 +414,10 @@ module _ (w : Setting) (begun : List Event) (state : LinkTable) (k : KeeperView)
     issued = ap (λ (r : Row). r.issued) row_is;
     since = ap (λ (r : Row). r.since) row_is;
     found = λ p waits. (ap (λ (r : Row). r.found_open) row_is, ap (λ (r : Row). r.since) row_is ∙ not_since (row_of k h).since refl says);
-    opens = h ∷ [];
+    opens = record { hart = h; number = length k.events } ∷ [];
     opened = ap (λ (x : KeeperView). x.opens) is;
-    left_open = λ p waits. here h [];
+    now = asked_once h k.events;
+    left_open = λ p waits. (record { hart = h; number = length k.events }, here (record { hart = h; number = length k.events }) [], refl);
   }
     where
       row_is : row_of l h ≡ record (row_of k h) { found_open = true }

@@ -51,7 +51,7 @@ pub record LockKeeps (w : Setting) (begun : List Event) (first : Counts) (state 
   pub folders_are : w.folders ≡ folders
   pub files_are : w.files ≡ files
   pub shown : ShowInCounts w.folders (drop (length begun) k.events) first counts
-  pub rounds : AreRounds begun k.events k.opens
+  pub rounds : AreRounds w begun k.events k.opens
 
 -- what is behind the lock once it is closed
 pub record IsClosed (w : Setting) (begun : List Event) (first : Counts) (state : LinkTable) (k : KeeperView)

@@ -1,22 +1,48 @@
 -- A run on threads goes round after round, each a turn under the keeper's lock. For whoever makes and closes a keeper, and for whoever reads what a run
 -- promises.
-use Rattle.std.specs.Prelude.{◌≡◌, ◌⊎◌, ℕ, ◌<◌, List, ◌++◌, Some, Contains}
+use Rattle.std.specs.Prelude.{◌≡◌, ◌⊎◌, ℕ, ◌≤◌, ◌<◌, List, [], ◌∷◌, ◌++◌, length, Contains}
 use Rattle.history_event.specs.declared.event.Event.{Event}
+use Rattle.history_event.specs.declared.event.Event.TheVariants.{Ended}
+use Rattle.history_event.specs.declared.hart_end.HartEnd.{HartEnd}
+use Rattle.word_rule.specs.declared.view.OpenRow.{OpenRow}
 use Rattle.word_rule.specs.Layout.{harts_at_most}
-use Rattle.history_calls.specs.Laws.{hart_of}
 use Rattle.history_state.specs.After.{after}
+use Rattle.history_state.specs.Setting.{Setting}
 use Rattle.history_state.specs.Slots.{HasNoGrant}
+use Rattle.hart_fits.specs.Fits.{HartFits}
+use Rattle.hart_moves.specs.Harts.{HartState}
+use Rattle.hart_moves.specs.Moves.{Did, Moves, events_of}
 use Rattle.link_keeper.specs.Finishing.{SettledUpTo}
 
--- a hart's turn under the lock, behind these events: first grants are settled, in the order of their harts, and then come its own events. Each hart whose
--- grant is open still behind the settling was asked for it in this very turn, and isn't done with it
-pub record IsRound (past settled own : List Event) (h : ℕ) (asked : List ℕ) : Type 0 where
-  pub in_order : SettledUpTo (past ++ (settled ++ own)) harts_at_most settled
-  pub of : (e : Event) → Contains own e → hart_of e ≡ Some h
-  pub left_open : (m : ℕ) → m < harts_at_most → HasNoGrant (after (past ++ settled)) m ⊎ Contains asked m
+-- its row was found open, once among these times
+abbrev pub WasFoundOpen : ℕ → List OpenRow → Type 0
+WasFoundOpen m asked = (x : OpenRow) × Contains asked x × (x.hart ≡ m)
 
--- behind these events a journal's came round after round; and so did the harts that were asked and weren't done, one for each time
-pub data AreRounds (begun : List Event) : List Event → List ℕ → Type 0 where
-  none_yet : (asked : List ℕ) → AreRounds begun begun asked
-  one_more : (past settled own : List Event) (h : ℕ) (before asked : List ℕ) → AreRounds begun past before → IsRound past settled own h asked
-      → AreRounds begun (past ++ (settled ++ own)) (before ++ asked)
+-- at each of these times there were no fewer events than before, and no more than with all that were new
+abbrev pub CameAmong : (past new : List Event) → List OpenRow → Type 0
+CameAmong past new asked = (x : OpenRow) → Contains asked x → (length past ≤ x.number) × (x.number ≤ length (past ++ new))
+
+-- behind these events grants are settled, in the order of their harts. Each hart whose grant is open still was asked for it meanwhile, and wasn't done
+-- with it
+pub record IsSettling (past settled : List Event) (asked : List OpenRow) : Type 0 where
+  pub in_order : SettledUpTo (past ++ settled) harts_at_most settled
+  pub now : CameAmong past settled asked
+  pub left_open : (m : ℕ) → m < harts_at_most → HasNoGrant (after (past ++ settled)) m ⊎ WasFoundOpen m asked
+
+-- these are the events of one turn of a hart that fits those before it: a move's; or its end, once the turn's calls of the bus are over, or where memory
+-- is wanted for the final destructors. Or there are none
+pub data IsTurnOf (w : Setting) (past : List Event) (h : ℕ) : List Event → Type 0 where
+  none : IsTurnOf w past h []
+  by_move : (b c : HartState) (did : Did) → HartFits w past h b → Moves w past h b did c → IsTurnOf w past h (events_of did)
+  by_end : (reason : HartEnd) → IsTurnOf w past h (Ended h reason ∷ [])
+
+-- a hart's turn under the lock, behind these events: first grants are settled, and then come the events of the turn
+pub record IsRound (w : Setting) (past settled own : List Event) (h : ℕ) (asked : List OpenRow) : Type 0 where
+  pub first : IsSettling past settled asked
+  pub turn : IsTurnOf w (past ++ settled) h own
+
+-- behind these events a journal's came round after round; and so did the times at which a hart was asked and wasn't done
+pub data AreRounds (w : Setting) (begun : List Event) : List Event → List OpenRow → Type 0 where
+  none_yet : AreRounds w begun begun []
+  one_more : (past settled own : List Event) (h : ℕ) (before asked : List OpenRow) → AreRounds w begun past before → IsRound w past settled own h asked
+      → AreRounds w begun (past ++ (settled ++ own)) (before ++ asked)

@@ -1,13 +1,15 @@
 -- How grants are settled before a hart is served. For the code of this crate alone.
-use Rattle.std.specs.Prelude.{◌≡◌, ◌≢◌, ◌⊎◌, ℕ, ◌<◌, true, List, [], ◌∷◌, ◌++◌, Contains, Some, None}
+use Rattle.std.specs.Prelude.{◌≡◌, ◌≢◌, ◌⊎◌, ℕ, ◌<◌, true, List, [], ◌∷◌, ◌++◌, Some, None}
 use Rattle.history_event.specs.declared.event.Event.{Event}
 use Rattle.word_rule.specs.declared.entry.Grant.{Grant}
 use Rattle.word_rule.specs.declared.view.KeeperView.{KeeperView}
+use Rattle.word_rule.specs.declared.view.OpenRow.{OpenRow}
 use Rattle.word_rule.specs.declared.view.Row.{Row}
 use Rattle.word_rule.specs.Views.{row_of}
+use Rattle.history_state.specs.Setting.{Setting}
 use Rattle.hart_trails.specs.Owners.{AreNobodys}
 use Rattle.link_keeper.specs.Finishing.{IsSettlingOf, SettledUpTo}
-use Rattle.link_keeper.specs.Rounds.{IsRound}
+use Rattle.link_keeper.specs.Rounds.{CameAmong, IsRound, IsSettling, WasFoundOpen}
 
 -- a row whose grant isn't settled was found open, and its hart isn't known to call
 abbrev pub IsFoundOpen : Row → Type 0
@@ -25,22 +27,31 @@ pub record HasSettled (asked : ℕ) (k l : KeeperView) : Type 0 where
   pub issued : (m : ℕ) → (row_of l m).issued ≡ (row_of k m).issued
   pub since : (m : ℕ) → (row_of l m).since ≡ (row_of k m).since
   pub found : (m : ℕ) → m < asked → IsFoundOpen (row_of l m)
-  pub opens : List ℕ
+  pub opens : List OpenRow
   pub opened : l.opens ≡ k.opens ++ opens
-  pub left_open : (m : ℕ) (g : Grant) → m < asked → (row_of l m).pending ≡ Some g → Contains opens m
+  pub now : CameAmong k.events more opens
+  pub left_open : (m : ℕ) (g : Grant) → m < asked → (row_of l m).pending ≡ Some g → WasFoundOpen m opens
+
+-- all of them were, behind what the keeper had counted
+pub record SettlesAll (k l : KeeperView) : Type 0 where
+  pub settled : List Event
+  pub events : l.events ≡ k.events ++ settled
+  pub asked : List OpenRow
+  pub opened : l.opens ≡ k.opens ++ asked
+  pub settling : IsSettling k.events settled asked
 
 -- a turn of this hart under the lock is a round behind what the keeper had counted
-pub record SettlesFirst (h : ℕ) (k l : KeeperView) : Type 0 where
+pub record SettlesFirst (w : Setting) (h : ℕ) (k l : KeeperView) : Type 0 where
   pub settled : List Event
   pub own : List Event
   pub events : l.events ≡ k.events ++ (settled ++ own)
-  pub asked : List ℕ
+  pub asked : List OpenRow
   pub opened : l.opens ≡ k.opens ++ asked
-  pub round : IsRound k.events settled own h asked
+  pub round : IsRound w k.events settled own h asked
 
 -- or nothing came
-abbrev pub SettlesOrRests : ℕ → KeeperView → KeeperView → Type 0
-SettlesOrRests h k l = (l ≡ k) ⊎ SettlesFirst h k l
+abbrev pub SettlesOrRests : Setting → ℕ → KeeperView → KeeperView → Type 0
+SettlesOrRests w h k l = (l ≡ k) ⊎ SettlesFirst w h k l
 
 -- of one row: one grant at most
 pub record SettlesOne (id : ℕ) (k l : KeeperView) : Type 0 where
@@ -54,6 +65,7 @@ pub record SettlesOne (id : ℕ) (k l : KeeperView) : Type 0 where
   pub issued : (row_of l id).issued ≡ (row_of k id).issued
   pub since : (row_of l id).since ≡ (row_of k id).since
   pub found : IsFoundOpen (row_of l id)
-  pub opens : List ℕ
+  pub opens : List OpenRow
   pub opened : l.opens ≡ k.opens ++ opens
-  pub left_open : (g : Grant) → (row_of l id).pending ≡ Some g → Contains opens id
+  pub now : CameAmong k.events more opens
+  pub left_open : (g : Grant) → (row_of l id).pending ≡ Some g → WasFoundOpen id opens

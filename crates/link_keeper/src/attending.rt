@@ -4,7 +4,7 @@ ghost use Rattle.std.specs.Prelude.{◌≡◌, ◌<◌, false};
 ghost use Rattle.link_keeper.specs.Attending.{Attends, NobodysCame};
 ghost use Rattle.hart_linker.specs.Between.{HasHeard};
 ghost use Rattle.link_keeper.specs.Keeping.{KeepsState};
-ghost use Rattle.link_keeper.specs.Settling.{SettlesFirst};
+ghost use Rattle.link_keeper.specs.Settling.{SettlesAll};
 
 use crate::rows::begin;
 use crate::settling::settle_all;
@@ -33,7 +33,7 @@ pub(crate) fn attend<R: Wait, J: Opening>(
     ensures keeps { KeepsState J.setting J.journal state.new keeper.new }
     ensures attends { Attends keeper.new seat.old seat.new id }
     ensures settled { NobodysCame keeper.old.events keeper.new.events }
-    ensures first { SettlesFirst seat.old.number keeper.old keeper.new }
+    ensures first { SettlesAll keeper.old keeper.new }
     ensures harts { state.new.harts ≡ state.old.harts }
 {
     entries_are_events();

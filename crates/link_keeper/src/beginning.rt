@@ -52,7 +52,7 @@ pub(crate) fn begin_finals<R: Wait, J: Opening>(
     requires exited { hart.old.hart.«end» ≡ Some (Exit code) }
     requires once { times_ended 0 (after seat.old.heard).endings ≤ 1 }
     ensures keeps { KeepsState J.setting J.journal state.new keeper.new }
-    ensures settled { SettlesOrRests seat.old.number keeper.old keeper.new }
+    ensures settled { SettlesOrRests J.setting seat.old.number keeper.old keeper.new }
     ensures begins { BeginsLast J.setting (starting_registers entry) seat.old seat.new hart.old.hart hart.new.hart result }
     ensures same { seat.new.number ≡ seat.old.number }
     ensures longer { BeginsWith seat.new.heard seat.old.heard }
@@ -123,7 +123,7 @@ fn end_again<R: Wait, J: Opening>(
     requires over { IsTrue (are_finals J.setting (after keeper.old.events)) }
     ensures keeps { KeepsState J.setting J.journal state.new keeper.new }
     ensures again { EndsAgain J.setting J.journal seat.old seat.new }
-    ensures settled { SettlesFirst seat.old.number keeper.old keeper.new }
+    ensures settled { SettlesFirst J.setting seat.old.number keeper.old keeper.new }
     ensures opened { OpensNothing keeper.old.events keeper.new.events }
 {
     ends_are_few();

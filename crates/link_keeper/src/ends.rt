@@ -41,7 +41,7 @@ pub(crate) fn end_hart<R: Wait, J: Opening>(
     ensures heard { HasHeard J.setting J.journal seat.new }
     ensures calling { seat.new.lane.calling ≡ false }
     ensures blocks { (d : BlockTable) → BlocksFit d seat.old → BlocksFit d seat.new }
-    ensures settled { SettlesFirst seat.old.number keeper.old keeper.new }
+    ensures settled { SettlesFirst J.setting seat.old.number keeper.old keeper.new }
     ensures opened { OpensNothing keeper.old.events keeper.new.events }
 {
     ends_are_few();

@@ -79,7 +79,7 @@ pub(crate) fn finalise_hart<R: Wait, J: Opening>(
     ensures turn { ServesTurn J.setting seat.old seat.new hart.old.hart hart.new.hart }
     ensures between { IsBetweenTurns J.setting J.journal seat.new hart.new.hart blocks.new }
     ensures opened { OpensNothing keeper.old.events keeper.new.events }
-    ensures settled { SettlesOrRests seat.old.number keeper.old keeper.new }
+    ensures settled { SettlesOrRests J.setting seat.old.number keeper.old keeper.new }
     ensures only { (keeper.new.events ≡ keeper.old.events)
         ⊎ ((e : Event) × Contains (drop (length keeper.old.events) keeper.new.events) e × (hart_of e ≡ Some 0)) }
 {

@@ -39,13 +39,13 @@ pub fn finish<J: Opening>(
     requires numbers { (i : ℕ) (seat : HartView) → slice_get seats.items i ≡ Some seat → seat.number ≡ i }
     requires heard { All (HasHeard J.setting J.journal) seats.items }
     requires calling { All (λ seat. seat.lane.calling ≡ false) seats.items }
-    requires rounds { AreRounds J.journal keeper.old.events keeper.old.opens }
+    requires rounds { AreRounds J.setting J.journal keeper.old.events keeper.old.opens }
     ensures over { RunIsOver J.setting J.journal keeper.old.events keeper.new.events seats.items }
     ensures keeps { KeepsView J.setting J.journal keeper.new }
     ensures known { IsOver keeper.new }
     ensures state { state.new.events ≡ keeper.new.events }
     ensures joined { keeper.new.joined ≡ map (knows keeper.old.events) seats.items }
-    ensures rounds { AreRounds J.journal keeper.new.events keeper.new.opens }
+    ensures rounds { AreRounds J.setting J.journal keeper.new.events keeper.new.opens }
 {
     records_stay();
     run_is_over();

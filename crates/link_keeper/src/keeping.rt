@@ -68,7 +68,7 @@ impl<J: Opening, L: Library + Drop> Locked<J, L> {
     )
         requires between { IsBetweenTurns J.setting J.journal seat.old hart.old.hart blocks.old }
         requires asks { (s : State) → is_asking (due s hart.old.hart) ≡ true }
-        ensures settled { SettlesFirst seat.old.number self.old self.new }
+        ensures settled { SettlesFirst J.setting seat.old.number self.old self.new }
         ensures turn { ServesTurn J.setting seat.old seat.new hart.old.hart hart.new.hart }
         ensures between { IsBetweenTurns J.setting J.journal seat.new hart.new.hart blocks.new }
     {
@@ -101,7 +101,7 @@ impl<J: Opening, L: Library + Drop> Locked<J, L> {
         requires last { (s : State) → is_finalising (due s hart.old.hart) ≡ true }
         ensures turn { ServesTurn J.setting seat.old seat.new hart.old.hart hart.new.hart }
         ensures between { IsBetweenTurns J.setting J.journal seat.new hart.new.hart blocks.new }
-        ensures settled { SettlesOrRests seat.old.number self.old self.new }
+        ensures settled { SettlesOrRests J.setting seat.old.number self.old self.new }
         ensures only { (self.new.events ≡ self.old.events)
             ⊎ ((e : Event) × Contains (drop (length self.old.events) self.new.events) e × (hart_of e ≡ Some 0)) }
     {
@@ -130,7 +130,7 @@ impl<J: Opening, L: Library + Drop> Locked<J, L> {
         requires heard { HasHeard J.setting J.journal seat.old }
         requires run { WasRunning J.setting seat.old }
         requires calling { seat.old.lane.calling ≡ false }
-        ensures settled { SettlesFirst seat.old.number self.old self.new }
+        ensures settled { SettlesFirst J.setting seat.old.number self.old self.new }
         ensures turn { EndsTurn J.setting seat.old seat.new reason hart.old.hart hart.new.hart }
         ensures heard { HasHeard J.setting J.journal seat.new }
         ensures calling { seat.new.lane.calling ≡ false }
@@ -179,7 +179,7 @@ impl<J: Opening, L: Library + Drop> Locked<J, L> {
         requires calling { seat.old.lane.calling ≡ false }
         requires exited { hart.old.hart.«end» ≡ Some (Exit code) }
         requires once { times_ended 0 (after seat.old.heard).endings ≤ 1 }
-        ensures settled { SettlesOrRests seat.old.number self.old self.new }
+        ensures settled { SettlesOrRests J.setting seat.old.number self.old self.new }
         ensures begins { BeginsLast J.setting (starting_registers entry) seat.old seat.new hart.old.hart hart.new.hart result }
         ensures same { seat.new.number ≡ seat.old.number }
         ensures longer { BeginsWith seat.new.heard seat.old.heard }

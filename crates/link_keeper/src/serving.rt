@@ -49,7 +49,7 @@ pub(crate) fn serve_hart<R: Wait, J: Opening, L: Library>(
     requires between { IsBetweenTurns J.setting J.journal seat.old hart.old.hart blocks.old }
     requires asks { (s : State) → is_asking (due s hart.old.hart) ≡ true }
     ensures keeps { KeepsState J.setting J.journal state.new keeper.new }
-    ensures settled { SettlesFirst seat.old.number keeper.old keeper.new }
+    ensures settled { SettlesFirst J.setting seat.old.number keeper.old keeper.new }
     ensures longer { BeginsWith keeper.new.events keeper.old.events }
     ensures turn { ServesTurn J.setting seat.old seat.new hart.old.hart hart.new.hart }
     ensures between { IsBetweenTurns J.setting J.journal seat.new hart.new.hart blocks.new }

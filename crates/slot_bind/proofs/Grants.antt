@@ -1,5 +1,5 @@
 -- Views over the steps of the calls on grants.
-use Rattle.std.proofs.Common.{◌≡◌, ◌≢◌, ◌⊎◌, ⊎_elim, ℕ, ◌%◌, ◌<◌, Bool, true, false, eqb, eq-eqb, ne_eqb, List, Option, None, Some, Contains, refl, sym, ap, subst, ◌∙◌, arith}
+use Rattle.std.proofs.Common.{◌≡◌, ◌≢◌, ◌⊎◌, ⊎_elim, ℕ, ◌%◌, ◌<◌, Bool, true, false, eqb, eq-eqb, ne_eqb, List, length, Option, None, Some, Contains, refl, sym, ap, subst, ◌∙◌, arith}
 use Rattle.std.proofs.lemmas.List.Elements.{Contains-push}
 use Rattle.history_event.specs.declared.handed.Offer.{Offer}
 use Rattle.word_rule.specs.declared.entry.Grant.{Grant}
@@ -12,6 +12,7 @@ use Rattle.word_rule.specs.declared.view.Fate.TheVariants.{Lost as FateLost, Won
 use Rattle.word_rule.specs.declared.view.KeeperView.{KeeperView}
 use Rattle.word_rule.specs.declared.view.Kept.{Kept}
 use Rattle.word_rule.specs.declared.view.Offer.{Offer as ReadOffer}
+use Rattle.word_rule.specs.declared.view.OpenRow.{OpenRow}
 use Rattle.word_rule.specs.declared.view.Row.{Row}
 use Rattle.word_rule.specs.Allowed.{IsLost, IsOf}
 use Rattle.word_rule.specs.HartSteps.{HartReady, entered, finished, hart_after, with_lane_of}
@@ -117,14 +118,14 @@ says n all SaysWon is r = ap (λ s. asked_if (eqb s 3) (eqb s 4) (eqb s 5) r) is
 says n all (SaysLost saw) is r = ap (λ s. asked_if (eqb s 3) (eqb s 4) (eqb s 5) r) is
 
 -- and whether it is open
-opens : (m n : ℕ) (a : Asked) → Says n a → (before : List ℕ) → opens_if m (eqb (n % 8) 3) before ≡ opens_by m a before
-opens m n Open is before = ap (λ s. opens_if m (eqb s 3) before) is
-opens m n SaysWon is before = ap (λ s. opens_if m (eqb s 3) before) is
-opens m n (SaysLost saw) is before = ap (λ s. opens_if m (eqb s 3) before) is
+opens : (m count n : ℕ) (a : Asked) → Says n a → (before : List OpenRow) → opens_if m count (eqb (n % 8) 3) before ≡ opens_by m count a before
+opens m count n Open is before = ap (λ s. opens_if m count (eqb s 3) before) is
+opens m count n SaysWon is before = ap (λ s. opens_if m count (eqb s 3) before) is
+opens m count n (SaysLost saw) is before = ap (λ s. opens_if m count (eqb s 3) before) is
 
 pub asks : (k k' : KeeperView) (m n : ℕ) (a : Asked) → IsResting k → TellsAsk k m n → k' ≡ keeper_after (keepers.Ask m) k n → Says n a → k' ≡ fated_view m a k
 asks k k' m n a r told is say = is ∙ ap (asked_in m n) (heeds k r.note)
-    ∙ (λ i. record (with_row m (says n told.state a say (row_of k m) i) k) { opens = opens m n a say k.opens i })
+    ∙ (λ i. record (with_row m (says n told.state a say (row_of k m) i) k) { opens = opens m (length k.events) n a say k.opens i })
 
 pub lost_state : (n : ℕ) → (n % 8 ≡ 3) ⊎ (n % 8 ≡ 4) ⊎ (n % 8 ≡ 5) → n % 8 ≢ 3 → n % 8 ≢ 4 → n % 8 ≡ 5
 lost_state n all three four = ⊎_elim (λ (e : n % 8 ≡ 3). absurd (three e)) (λ h. ⊎_elim (λ (e : n % 8 ≡ 4). absurd (four e)) (λ (e : n % 8 ≡ 5). e) h) all

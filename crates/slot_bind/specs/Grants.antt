@@ -7,6 +7,7 @@ use Rattle.word_rule.specs.declared.view.Fate.TheVariants.{Won as FateWon, Lost 
 use Rattle.word_rule.specs.declared.view.HartView.{HartView}
 use Rattle.word_rule.specs.declared.view.KeeperView.{KeeperView}
 use Rattle.word_rule.specs.declared.view.Offer.{Offer as ReadOffer}
+use Rattle.word_rule.specs.declared.view.OpenRow.{OpenRow}
 use Rattle.word_rule.specs.declared.view.Row.{Row}
 use Rattle.word_rule.specs.declared.view.TrailItem.TheVariants.{Done, Exchanged}
 use Rattle.word_rule.specs.Allowed.{IsPostable}
@@ -113,14 +114,14 @@ asked_row Open r = record r { found_open = true }
 asked_row SaysWon r = settled_as FateWon r.pending r
 asked_row (SaysLost saw) r = settled_as FateLost r.pending r
 
--- a row that was found open is kept in mind
-abbrev pub opens_by : ℕ → Asked → List ℕ → List ℕ
-opens_by m Open before = before ++ m ∷ []
-opens_by m _ before = before
+-- a row that was found open behind so many events is kept in mind
+abbrev pub opens_by : (m number : ℕ) → Asked → List OpenRow → List OpenRow
+opens_by m number Open before = before ++ record { hart = m; number = number } ∷ []
+opens_by m number _ before = before
 
 -- the keeper's view once the grant's fate is known
 abbrev pub fated_view : ℕ → Asked → KeeperView → KeeperView
-fated_view m answer k = record (with_row m (asked_row answer (row_of k m)) k) { opens = opens_by m answer k.opens }
+fated_view m answer k = record (with_row m (asked_row answer (row_of k m)) k) { opens = opens_by m (length k.events) answer k.opens }
 
 -- a slot was looked at, for the lost grant in a hart's row
 abbrev pub with_look : ℕ → ℕ → ℕ → KeeperView → KeeperView

@@ -13,6 +13,7 @@ use Rattle.word_rule.specs.declared.view.HartView.{HartView}
 use Rattle.word_rule.specs.declared.view.KeeperView.{KeeperView}
 use Rattle.word_rule.specs.declared.view.Kept.{Kept}
 use Rattle.word_rule.specs.declared.view.Loss.{Loss}
+use Rattle.word_rule.specs.declared.view.OpenRow.{OpenRow}
 use Rattle.word_rule.specs.declared.view.Row.{Row}
 use Rattle.word_rule.specs.declared.view.Sight.{Sight}
 use Rattle.word_rule.specs.declared.view.Told.{Told}
@@ -94,13 +95,13 @@ asked_if false false false r = r
 abbrev pub asked : ℕ → Row → Row
 asked state r = asked_if (eqb (state % 8) 3) (eqb (state % 8) 4) (eqb (state % 8) 5) r
 
--- a row that is found open is kept in mind
-abbrev pub opens_if : ℕ → Bool → List ℕ → List ℕ
-opens_if m true before = before ++ m ∷ []
-opens_if m false before = before
+-- a row that is found open behind so many events is kept in mind
+abbrev pub opens_if : (m number : ℕ) → Bool → List OpenRow → List OpenRow
+opens_if m number true before = before ++ record { hart = m; number = number } ∷ []
+opens_if m number false before = before
 
 abbrev pub asked_in : ℕ → ℕ → KeeperView → KeeperView
-asked_in m state k = record (with_row m (asked state (row_of k m)) k) { opens = opens_if m (eqb (state % 8) 3) k.opens }
+asked_in m state k = record (with_row m (asked state (row_of k m)) k) { opens = opens_if m (length k.events) (eqb (state % 8) 3) k.opens }
 
 abbrev pub handed : ℕ → Row → Row
 handed mark r = record r { issued = r.issued ++ entry_of mark r ∷ []; since = None }

@@ -37,3 +37,4 @@ pub record IsFirst (k : KeeperView) : Type 0 where
   pub none_shown : k.shown ≡ []
   pub none_lost : k.losses ≡ []
   pub none_retired : k.retired ≡ []
+  pub none_open : k.opens ≡ []

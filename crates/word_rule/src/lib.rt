@@ -30,6 +30,6 @@ pub use law::{
 };
 pub use rule::{Aimed, Does, GuestRule, MakesHart, MakesNote, TakesIn};
 pub use view::{
-    Access, Fate, HartView, KeeperView, Kept, Lane, Loss, Offer, Retired, Row, Settled, Sight,
-    Slip, Told, TrailItem, View,
+    Access, Fate, HartView, KeeperView, Kept, Lane, Loss, Offer, OpenRow, Retired, Row, Settled,
+    Sight, Slip, Told, TrailItem, View,
 };

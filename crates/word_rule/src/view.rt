@@ -191,6 +191,15 @@ pub struct Loss {
     pub exchange: Exchange,
 }
 
+/// A hart's row that was asked and found open.
+#[derive(Clone, Copy)]
+pub struct OpenRow {
+    /// The hart whose row it is.
+    pub hart: u64,
+    /// How many events had been counted then.
+    pub number: u64,
+}
+
 /// What the keeper knows.
 pub struct KeeperView {
     /// Of each doubleword of guest memory, from the first address on.
@@ -215,8 +224,8 @@ pub struct KeeperView {
     pub losses: LinkedList<Loss>,
     /// Each role that was taken away, in order.
     pub retired: LinkedList<Retired>,
-    /// Each time that a hart's row was asked and found open, in order: the hart.
-    pub opens: LinkedList<u64>,
+    /// Each time that a hart's row was asked and found open, in order.
+    pub opens: LinkedList<OpenRow>,
 }
 
 /// What a note carries beside a list of events.

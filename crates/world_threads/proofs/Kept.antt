@@ -16,6 +16,7 @@ use Rattle.link_keeper.specs.Keeping.{FirstGoesOn, LockKeeps}
 use Rattle.link_keeper.specs.Rounds.{AreRounds}
 use Rattle.link_state.specs.Table.{LinkTable}
 use Rattle.word_rule.specs.declared.view.KeeperView.{KeeperView}
+use Rattle.word_rule.specs.declared.view.OpenRow.{OpenRow}
 use Rattle.word_rule.specs.declared.view.Row.{Row}
 use Rattle.world_threads.specs.Setting.{IsSetUp}
 use Rattle.world_threads.proofs.Finished.{ended_in, ends_grow, exited_many}
@@ -54,5 +55,5 @@ module _ (w : Setting) (setup : Setup) (begun : List Event) (started : Started) 
     folders_are = folders_are;
     files_are = files_are;
     shown = subst (λ (es : List Event). ShowInCounts w.folders es first first) (sym (ap (drop (length begun)) at.events ∙ drop_all (length begun) begun (omega arith))) (nothing w.folders first);
-    rounds = subst (λ (es : List Event). AreRounds begun es k.opens) (sym at.events) (AreRounds.none_yet k.opens);
+    rounds = subst (λ (p : List Event × List OpenRow). AreRounds w begun p.0 p.1) (λ i. (sym at.events i, sym at.none_open i)) AreRounds.none_yet;
   }

@@ -25,11 +25,13 @@ pub low_generation : (harts n : ℕ) (begun : List Event) (k l : KeeperView) →
 low_generation harts n begun k l made is = subst (λ (g : ℕ). g ≤ n) (sym (ap (λ (v : KeeperView). v.generation) is ∙ made.no_modules)) (omega arith)
 
 -- and once its objects are installed
-pub is_set_up : StartupKept → (w : Setting) (begun : List Event) (installs : Installs) (k l : KeeperView) → IsStartup w begun installs → IsFresh w begun k → k.joined ≡ [] → IsLong l
+pub is_set_up : StartupKept → (w : Setting) (begun : List Event) (installs : Installs) (k l : KeeperView) → IsStartup w begun installs → IsFresh w begun k → k.joined ≡ []
+    → k.opens ≡ [] → IsLong l
     → IsInstalled installs k l → l.generation ≡ (after begun).generation → IsSetUp w begun l
-is_set_up kept w begun installs k l start fresh none long installed generation = record {
+is_set_up kept w begun installs k l start fresh none unasked long installed generation = record {
   kept = kept w begun installs k l start fresh long installed generation;
   events = ap (λ (v : KeeperView). v.events) installed.only ∙ fresh.events;
   rows = λ m. ap (λ (v : KeeperView). row_of v m) installed.only ∙ fresh.rows m;
   none_joined = ap (λ (v : KeeperView). v.joined) installed.only ∙ none;
+  none_open = ap (λ (v : KeeperView). v.opens) installed.only ∙ unasked;
 }

@@ -13,12 +13,13 @@ use Rattle.word_rule.specs.declared.view.HartView.{HartView}
 use Rattle.word_rule.specs.declared.view.KeeperView.{KeeperView}
 use Rattle.word_rule.specs.Views.{first_hart, no_row, row_of}
 
--- the keeper's view behind startup: nothing was handed to a hart, and none was joined
+-- the keeper's view behind startup: nothing was handed to a hart, and none was asked or joined
 pub record IsSetUp (w : Setting) (begun : List Event) (k : KeeperView) : Type 0 where
   pub kept : AreKept w begun k
   pub events : k.events ≡ begun
   pub rows : (m : ℕ) → row_of k m ≡ no_row
   pub none_joined : k.joined ≡ []
+  pub none_open : k.opens ≡ []
 
 -- a hart that has done nothing, and was told of these events
 abbrev pub hears : List Event → HartView → HartView

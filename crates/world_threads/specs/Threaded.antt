@@ -76,9 +76,9 @@ pub record IsThreaded (w : Setting) (setup : Setup) (left : RunRecord) (trails :
   pub kept : AreKept w by.startup trails
   -- what became of each grant is known, and what was seen of a slot is the value of the one that was bound
   pub over : IsOver trails
-  -- behind startup they came round after round, each a turn of one hart at the linker: grants are settled first, in the order of their harts, and whose
-  -- grant is left open was asked for in that very turn
-  pub rounds : AreRounds by.startup left.journal.events trails.opens
+  -- behind startup they came round after round, each one turn of one hart at the linker: grants are settled first, in the order of their harts, and whose
+  -- grant is left open was asked for in that very round
+  pub rounds : AreRounds w by.startup left.journal.events trails.opens
   -- each hart has an end, which is the last one that the journal has of it
   pub last : AreLastEnds w.machine.harts (after left.journal.events).endings left.ends
   -- and a trail that leads there

@@ -337,7 +337,7 @@ fn left_by<J: Opening>(
     ends: Ends,
 ) -> Ran
     requires keeps { KeepsState J.setting J.journal state keeper }
-    requires rounds { AreRounds J.journal keeper.events keeper.opens }
+    requires rounds { AreRounds J.setting J.journal keeper.events keeper.opens }
     requires some { 0 < J.setting.machine.harts }
     requires have { (setup : setup_value) × (started : started_value) × HaveRun J.setting setup J.journal started ends seats.items }
     ensures threaded { (setup : setup_value) (started : started_value) → Starts J.setting setup J.journal started

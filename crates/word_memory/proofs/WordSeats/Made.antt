@@ -24,6 +24,7 @@ first_made k f = record {
   none_joined = f.none_joined;
   none_shown = f.none_shown;
   none_retired = f.none_retired;
+  none_open = f.none_open;
 }
   where
     nothing_in : (d : ℕ) → in_linker_page 0 d ≡ false
@@ -64,6 +65,7 @@ page_more k k' i address low is made inside now = subst (λ k. IsMade k (i + 1) 
   none_joined = made.none_joined;
   none_shown = made.none_shown;
   none_retired = made.none_retired;
+  none_open = made.none_open;
 })
   where
     x : Kept
@@ -95,6 +97,7 @@ hart_more k k' n made now = subst (λ k. IsMade k 512 (n + 1)) (sym now) (record
   none_joined = made.none_joined;
   none_shown = made.none_shown;
   none_retired = made.none_retired;
+  none_open = made.none_open;
 })
 
 pub new_more : (n : ℕ) → new_harts (n + 1) ≡ new_harts n ++ first_hart n ∷ []

@@ -28,6 +28,7 @@ pub record IsMade (k : KeeperView) (page harts : ℕ) : Type 0 where
   pub none_joined : k.joined ≡ []
   pub none_shown : k.shown ≡ []
   pub none_retired : k.retired ≡ []
+  pub none_open : k.opens ≡ []
 
 -- the views of harts that have done nothing
 abbrev pub new_harts : ℕ → List HartView

@@ -174,4 +174,5 @@ is_first = subst IsFirst (sym first_is) (record {
   none_shown = refl;
   none_lost = refl;
   none_retired = refl;
+  none_open = refl;
 })

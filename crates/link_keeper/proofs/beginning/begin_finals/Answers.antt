@@ -163,5 +163,5 @@ pub returns-in-Ok-false-clause-settled : goal.returns-in-Ok-false-clause-settled
 returns-in-Ok-false-clause-settled g c = inl c.hear.ensures.keeper
 
 pub returns-in-Err-clause-settled : goal.returns-in-Err-clause-settled
-returns-in-Err-clause-settled g c = inr (subst (λ (k : KeeperView). SettlesFirst c.args.seat.now.number k c.end_again.new.keeper) c.hear.ensures.keeper
-    (subst (λ (n : ℕ). SettlesFirst n c.hear.new.keeper c.end_again.new.keeper) (ap (λ (x : HartView). x.number) c.hear.ensures.hears.told) c.end_again.ensures.settled))
+returns-in-Err-clause-settled g c = inr (subst (λ (k : KeeperView). SettlesFirst g.J.Opening.setting c.args.seat.now.number k c.end_again.new.keeper) c.hear.ensures.keeper
+    (subst (λ (n : ℕ). SettlesFirst g.J.Opening.setting n c.hear.new.keeper c.end_again.new.keeper) (ap (λ (x : HartView). x.number) c.hear.ensures.hears.told) c.end_again.ensures.settled))

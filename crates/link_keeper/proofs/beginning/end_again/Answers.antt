@@ -3,7 +3,7 @@ use Rattle.history_event.specs.declared.event.Event.TheVariants.{Ended}
 use Rattle.history_event.specs.declared.hart_end.HartEnd.TheVariants.{Memory}
 use Rattle.link_state.specs.Table.{LinkTable}
 use Rattle.link_keeper.proofs.Ended.{again_low, again_may, end_times, end_within, ends_again, noted_follows, noted_next}
-use Rattle.link_keeper.proofs.Left.{one_behind_settled}
+use Rattle.link_keeper.proofs.Left.{end_behind_settled}
 use Rattle.link_keeper.proofs.Shown.{one_more_came}
 use Rattle.link_keeper.proofs.beginning.end_again.Goals as goal
 
@@ -67,6 +67,6 @@ returns-clause-settled g c =
     (again_may w g.J.Opening.journal c.args.keeper.now c.attend.new.keeper c.args.seat.now c.attend.new.seat c.id_of-id.result c.attend.ensures.settled zeroth c.requires.over)
     (again_low w c.id_of-id.result zeroth c.requires.some) (λ _. zeroth) c.states_stay.ensures.events c.records_stay.ensures.quiet Memory c.ended.new.self
     (ap (λ (t : LinkTable). t.events) c.ended.ensures) (ap (λ (t : LinkTable). t.harts) c.ended.ensures) in
-    one_behind_settled c.args.seat.now.number c.args.keeper.now c.attend.new.keeper c.pass_next.new.keeper c.attend.new.seat c.pass_next.new.seat c.id_of-id.result (Ended c.id_of-id.result Memory)
-    c.id_of-id.ensures refl c.attend.ensures.first
+    end_behind_settled w c.args.seat.now.number c.args.keeper.now c.attend.new.keeper c.pass_next.new.keeper c.attend.new.seat c.pass_next.new.seat c.id_of-id.result Memory
+    c.id_of-id.ensures c.attend.ensures.first
     (c.pass_next.ensures.passed (Ended c.id_of-id.result Memory) [] next)

@@ -2,7 +2,7 @@ use Rattle.std.proofs.Common.{◌<◌, [], refl, sym, ap, subst, length, ◌∙�
 use Rattle.history_event.specs.declared.event.Event.TheVariants.{Ended}
 use Rattle.link_state.specs.Table.{LinkTable}
 use Rattle.link_keeper.proofs.Ended.{end_follows, end_low, end_may, end_next, end_times, end_within, ends}
-use Rattle.link_keeper.proofs.Left.{one_behind_settled}
+use Rattle.link_keeper.proofs.Left.{end_behind_settled}
 use Rattle.link_keeper.proofs.Shown.{one_more_came}
 use Rattle.link_keeper.proofs.ends.end_hart.Goals as goal
 
@@ -72,9 +72,8 @@ returns-clause-opened g c = one_more_came c.args.keeper.now.events c.attend.new.
     c.id_of-id.ensures c.requires.run (c.number.ensures.lane.idle c.requires.calling) c.attend.ensures.attends c.ended.ensures c.pass_next.ensures.passed c.stop.ensures).events refl
 
 pub returns-clause-settled : goal.returns-clause-settled
-returns-clause-settled g c = one_behind_settled c.args.seat.now.number c.args.keeper.now c.attend.new.keeper c.pass_next.new.keeper c.attend.new.seat c.pass_next.new.seat c.id_of-id.result
-    (Ended c.id_of-id.result c.args.reason) c.id_of-id.ensures refl
-    c.attend.ensures.first
+returns-clause-settled g c = end_behind_settled g.J.Opening.setting c.args.seat.now.number c.args.keeper.now c.attend.new.keeper c.pass_next.new.keeper c.attend.new.seat c.pass_next.new.seat c.id_of-id.result
+    c.args.reason c.id_of-id.ensures c.attend.ensures.first
     (c.pass_next.ensures.passed (Ended c.id_of-id.result c.args.reason) [] (end_next c.harts_fit.ensures.others c.running_is_not_over.ensures.runs c.harts_fit.ensures.may_end g.J.Opening.setting g.J.Opening.journal c.attend.new.state c.attend.new.keeper c.args.seat.now
     c.attend.new.seat c.id_of-id.result c.attend.ensures.keeps c.requires.heard c.id_of-id.ensures c.requires.run c.attend.ensures.attends c.states_stay.ensures.events c.records_stay.ensures.quiet c.args.reason
     c.ended.new.self (ap (λ (t : LinkTable). t.events) c.ended.ensures) (ap (λ (t : LinkTable). t.harts) c.ended.ensures)))

@@ -1,4 +1,4 @@
-use Rattle.std.proofs.Common.{inl, inr, ℕ, Some, List, [], ◌++◌, drop, length, refl, sym, ap, subst, ◌∙◌}
+use Rattle.std.proofs.Common.{inl, inr, ℕ, List, [], ◌++◌, drop, length, refl, sym, ap, subst, ◌∙◌}
 use Rattle.std.specs.List.{Contains}
 use Rattle.history_event.specs.declared.event.Event.{Event}
 use Rattle.history_journal.specs.Following.{machine_of}
@@ -6,7 +6,6 @@ use Rattle.history_state.specs.After.{after}
 use Rattle.history_state.specs.Legal.{Legal}
 use Rattle.hart_fits.specs.Fits.{HartFits}
 use Rattle.hart_moves.specs.Harts.{HartState}
-use Rattle.hart_moves.specs.Lemmas.Legality.{turns_own}
 use Rattle.hart_moves.specs.Moves.{Did, Moves, events_of}
 use Rattle.word_rule.specs.declared.view.HartView.{HartView}
 use Rattle.word_rule.specs.declared.view.KeeperView.{KeeperView}
@@ -15,7 +14,8 @@ use Rattle.link_keeper.specs.Acting.{Acts, OpenNothing}
 use Rattle.link_keeper.specs.Attending.{NobodysCame}
 use Rattle.link_keeper.specs.Finalising.{HasPlan, IsPlannedOr, MayFinalise}
 use Rattle.link_keeper.specs.Keeping.{KeepsState, OpensNothing}
-use Rattle.link_keeper.specs.Settling.{SettlesFirst}
+use Rattle.link_keeper.specs.Rounds.{IsTurnOf}
+use Rattle.link_keeper.specs.Settling.{SettlesAll}
 use Rattle.link_keeper.proofs.Finalised.{initialised_so, is_last, may_finalise, planned_on, runs_finals, zeroth}
 use Rattle.link_keeper.proofs.GoneBy.{at_last, fits_told, hand_last, may_last, opens_behind, own_behind, quiet_between, quiet_turn, row_idle, taken_last}
 use Rattle.link_keeper.proofs.Left.{own_behind_settled}
@@ -162,10 +162,8 @@ pub returns-in-Asks-clause-settled : goal.returns-in-Asks-clause-settled
 returns-in-Asks-clause-settled g c =
     let turn = (taken_last c.harts_fit.ensures.others g.J.Opening.setting g.J.Opening.journal c.attend.new.state c.attend.new.keeper c.args.seat.now c.hear.new.seat c.attend.new.seat c.id_of-id.result c.args.hart.now.hart c.args.blocks.now c.attend.ensures.keeps c.requires.between c.hear.ensures.hears c.id_of-id.ensures (is_last (after c.args.keeper.now.events) c.args.hart.now.hart (c.requires.last (after c.args.keeper.now.events))).runs c.attend.ensures.attends c.act_last-acted.new.state c.act_last-acted.new.hart.hart c.args.blocks.now.spare c.act_last-acted.result.change c.act_last-acted.result.reply (subst (λ (x : HartState). Acts g.J.Opening.setting c.attend.new.state.events c.act_last-acted.new.state c.id_of-id.result x c.act_last-acted.new.hart.hart c.args.blocks.now.spare c.act_last-acted.result.change c.act_last-acted.result.reply) c.plan_turn.ensures.hart (c.act_last-acted.ensures.acts c.args.blocks.now.spare))) in
     let over = c.pass-entry.ensures c.args.hart.now.hart c.act_last-acted.new.hart.hart c.args.blocks.now.spare turn in
-    let same = ap (λ (x : HartView). x.number) c.hear.ensures.hears.told in
-    inr (own_behind_settled c.args.seat.now.number c.args.keeper.now c.attend.new.keeper c.pass-entry.new.keeper (events_of turn.acts.did)
-    (subst (λ (x : KeeperView). SettlesFirst c.args.seat.now.number x c.attend.new.keeper) c.hear.ensures.keeper
-    (subst (λ (n : ℕ). SettlesFirst n c.hear.new.keeper c.attend.new.keeper) same c.attend.ensures.first)) over.passed.events
-    (λ e there. turns_own g.J.Opening.setting c.attend.new.keeper.events c.id_of-id.result c.args.hart.now.hart c.act_last-acted.new.hart.hart turn.acts.did turn.acts.moves e there
-    ∙ ap (λ (n : ℕ). Some n) c.id_of-id.ensures)
+    inr (own_behind_settled g.J.Opening.setting c.args.seat.now.number c.args.keeper.now c.attend.new.keeper c.pass-entry.new.keeper (events_of turn.acts.did)
+    (subst (λ (x : KeeperView). SettlesAll x c.attend.new.keeper) c.hear.ensures.keeper c.attend.ensures.first) over.passed.events
+    (subst (λ (n : ℕ). IsTurnOf g.J.Opening.setting c.attend.new.keeper.events n (events_of turn.acts.did)) c.id_of-id.ensures
+    (IsTurnOf.by_move c.args.hart.now.hart c.act_last-acted.new.hart.hart turn.acts.did turn.fits turn.acts.moves))
     over.passed.opens)

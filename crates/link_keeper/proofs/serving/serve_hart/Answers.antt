@@ -4,6 +4,7 @@ use Rattle.history_journal.specs.Following.{machine_of}
 use Rattle.history_state.specs.After.{after}
 use Rattle.hart_moves.specs.Lemmas.Legality.{turns_own}
 use Rattle.hart_moves.specs.Moves.{events_of}
+use Rattle.link_keeper.specs.Rounds.{IsTurnOf}
 use Rattle.link_keeper.proofs.Left.{own_behind_settled}
 use Rattle.link_keeper.proofs.Served.{asks_idle, between_now, is_taken, journal_is, keeps_now, kept_now, may_act, may_hand_over, module_there, serves_turn}
 use Rattle.link_keeper.proofs.Shown.{came_behind, turn_shown, unread_behind}
@@ -85,9 +86,9 @@ returns-clause-settled g c =
     c.id_of-id.ensures c.requires.asks c.attend.ensures.attends
     c.act-acted.new.state c.act-acted.new.hart.hart c.act-acted.new.blocks.spare c.act-acted.result.change c.act-acted.result.reply c.act-acted.ensures.acts in
     let over = c.pass-entry.ensures c.args.hart.now.hart c.act-acted.new.hart.hart c.act-acted.new.blocks.spare turn in
-    own_behind_settled c.args.seat.now.number c.args.keeper.now c.attend.new.keeper c.pass-entry.new.keeper (events_of turn.acts.did) c.attend.ensures.first over.passed.events
-    (λ e there. turns_own g.J.Opening.setting c.attend.new.keeper.events c.id_of-id.result c.args.hart.now.hart c.act-acted.new.hart.hart turn.acts.did turn.acts.moves e there
-    ∙ ap (λ (n : ℕ). Some n) c.id_of-id.ensures)
+    own_behind_settled g.J.Opening.setting c.args.seat.now.number c.args.keeper.now c.attend.new.keeper c.pass-entry.new.keeper (events_of turn.acts.did) c.attend.ensures.first over.passed.events
+    (subst (λ (n : ℕ). IsTurnOf g.J.Opening.setting c.attend.new.keeper.events n (events_of turn.acts.did)) c.id_of-id.ensures
+    (IsTurnOf.by_move c.args.hart.now.hart c.act-acted.new.hart.hart turn.acts.did turn.fits turn.acts.moves))
     over.passed.opens
 
 pub returns-clause-longer : goal.returns-clause-longer

@@ -32,4 +32,4 @@ returns-clause-threaded g c = λ setup started starts have.
     (ap (λ (k : KeeperView). k.joined) c.into_trails.ensures ∙ c.finish.ensures.joined)
     (subst (AreKept g.J.Opening.setting g.J.Opening.journal) (sym c.into_trails.ensures) c.finish.ensures.keeps.kept)
     (subst IsOver (sym c.into_trails.ensures) c.finish.ensures.known)
-    (subst (λ (k : KeeperView). AreRounds g.J.Opening.journal k.events k.opens) (sym c.into_trails.ensures) c.finish.ensures.rounds) starts
+    (subst (λ (k : KeeperView). AreRounds g.J.Opening.setting g.J.Opening.journal k.events k.opens) (sym c.into_trails.ensures) c.finish.ensures.rounds) starts

@@ -17,4 +17,5 @@ returns-clause-keeper g c =
     subst (IsSetUp g.J.Opening.setting c.args.state.now.events) (sym c.knows_all.ensures.keeper)
     (is_set_up c.startup_is_kept.ensures.kept g.J.Opening.setting c.args.state.now.events c.args.installs.now c.count_all.new.keeper c.install.new.keeper c.requires.brings fresh
     (ap (λ (k : KeeperView). k.joined) c.count_all.ensures ∙ c.in_ok-memory.ensures.keeper.none_joined)
+    (ap (λ (k : KeeperView). k.opens) c.count_all.ensures ∙ c.in_ok-memory.ensures.keeper.none_open)
     c.knows_all.ensures.long c.install.ensures.installed (c.install.ensures.generation ∙ c.generation.ensures ∙ c.modules.ensures.generation))

@@ -23,8 +23,8 @@ invariant_of-self g c = record {
       (subst (λ (folders : List (List ℕ)). ShowInCounts folders (drop (length c.self.inside.seat.events) c.serve_hart.new.keeper.events)
       (record { faults = g.L.Library.faults c.self.inside.library; misses = g.L.Library.misses c.self.inside.library })
       (record { faults = g.L.Library.faults c.serve_hart.new.library; misses = g.L.Library.misses c.serve_hart.new.library })) (sym c.self.invariant.folders_are) c.serve_hart.ensures.shown);
-  rounds = one_round_more g.J.Opening.journal c.args.seat.now.number c.self.inside.seat c.serve_hart.new.keeper c.self.invariant.rounds c.serve_hart.ensures.settled;
+  rounds = one_round_more g.J.Opening.setting g.J.Opening.journal c.args.seat.now.number c.self.inside.seat c.serve_hart.new.keeper c.self.invariant.rounds c.serve_hart.ensures.settled;
 }
 
 pub returns-clause-settled : goal.returns-clause-settled
-returns-clause-settled g c = subst (λ (k : KeeperView). SettlesFirst c.args.seat.now.number k c.serve_hart.new.keeper) c.self.view_is c.serve_hart.ensures.settled
+returns-clause-settled g c = subst (λ (k : KeeperView). SettlesFirst g.J.Opening.setting c.args.seat.now.number k c.serve_hart.new.keeper) c.self.view_is c.serve_hart.ensures.settled
