@@ -45,7 +45,7 @@ use link_holds::{
     open_grant, refusal_event, room_for_grant, room_for_refusal, settled_event, unresolved_event,
 };
 use link_images::ImageParts;
-use link_lists::{HeldEdges, LateBlocks, KnownObjects, LoadRecord, OpenGrants, Unfinished};
+use link_lists::{HeldEdges, KnownObjects, LateBlocks, LoadRecord, OpenGrants, Unfinished};
 use link_names::ListedNamespaces;
 use link_spaces::{PendingClosings, ReservedPages, holder_in, namespace_in, object_in};
 use scope_rule::Namespace;
