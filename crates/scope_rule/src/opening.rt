@@ -13,6 +13,9 @@ use indexmap::IndexSet;
 use ld_base::{Added, Serial, Serials};
 use std::alloc::{AllocError, Global};
 
+/// For so few serials the list isn't made known: each is looked for in it sooner.
+const FEW: usize = 8;
+
 /// The global objects and the openings of a namespace, as an opening leaves them.
 #[derive(Drop)]
 pub struct OpenedLists {
@@ -83,10 +86,33 @@ fn push_unknown(
     Ok(())
 }
 
+/// Puts a serial at the end if the list lacks it; the linker's own is left out.
+fn extend_by_one(list: &mut Serials, serial: Serial) -> Result<(), AllocError>
+    ensures { OnOk result (list.new ≡ extend list.old (serial ∷ [])) }
+{
+    if serial != Serial::LINKER && !list.as_slice().contains(&serial) {
+        list.push(serial)?;
+    }
+    Ok(())
+}
+
+/// Puts those serials at the end that a list lacks, each of which is looked for in it.
+fn extend_by_each(list: &mut Serials, serials: &[Serial]) -> Result<(), AllocError>
+    ensures { OnOk result (list.new ≡ extend list.old serials.now) }
+{
+    for serial in serials {
+        extend_by_one(list, *serial)?;
+    }
+    Ok(())
+}
+
 /// Puts those serials at the end that a list lacks; the linker's own is left out.
 fn extend_list(alloc: Global, list: &mut Serials, serials: &[Serial]) -> Result<(), AllocError>
     ensures { OnOk result (list.new ≡ extend list.old serials.now) }
 {
+    if serials.len() <= FEW {
+        return extend_by_each(list, serials);
+    }
     let mut known = known_of(alloc, list.as_slice())?;
     for serial in serials {
         push_unknown(&mut known, list, *serial)?;

@@ -35,13 +35,12 @@ impl Places {
     ghost use Rattle.scope_rule.specs.Seen.{seen};
     ghost use Rattle.scope_rule.specs.Places.{ArePlaces, NotesMore, place_of, serials, serials_of};
 
-    /// None yet.
-    fn new(alloc: Global) -> Self
-        ensures { (serial : ℕ) → place_of result serial ≡ None }
+    /// None yet, with room for so many.
+    fn with_capacity(alloc: Global, count: usize) -> Result<Self, AllocError>
+        ensures { IfOk result (λ places. (serial : ℕ) → place_of places serial ≡ None) }
     {
-        Places {
-            by_serial: HashMap::new(alloc),
-        }
+        let by_serial = HashMap::with_capacity(alloc, count)?;
+        Ok(Places { by_serial })
     }
 
     /// Those of what is seen of a namespace.
@@ -52,7 +51,8 @@ impl Places {
     pub fn of(alloc: Global, view: &View) -> Result<Self, AllocError>
         ensures { IfOk result (λ places. ArePlaces (serials_of (seen view.now)) places) }
     {
-        let mut places = Places::new(alloc);
+        let count = view.objects.len() + view.added.len();
+        let mut places = Places::with_capacity(alloc, count)?;
         places.add_all(view.objects, 0)?;
         places.add_all(view.added, view.objects.len())?;
         Ok(places)
