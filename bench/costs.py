@@ -136,6 +136,7 @@ RETURN = bytes.fromhex("67800000")
 
 def called_one_by_one(texts):
     """A program that calls each name of a library whose names are all in one bucket, and each of whose functions returns."""
+    # (behind the three program headers stands nothing up to the first table at 288)
     free = 240
     library = bytearray(one_bucket(texts, free)["lib/liba.so"])
     library[free : free + 4] = RETURN
