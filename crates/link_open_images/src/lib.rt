@@ -15,7 +15,6 @@ mod images;
 mod new_blocks;
 mod object_bindings;
 mod opening_steps;
-mod sight;
 mod slots;
 
 pub use area_images::area_image;

@@ -1,40 +1,33 @@
 -- What the check of versions looks up by name.
-use Rattle.std.proofs.Common.{◌≡◌, ℕ, ◌==◌, ◌+◌, ◌<◌, ◌≤◌, Bool, true, false, not, ◌||◌, inl, inr, List, [], ◌∷◌, ◌++◌, length, get_or, take, Some, None, Option, cond, refl, subst, sym, ap, ◌∙◌, arith}
+use Rattle.std.proofs.Common.{◌≡◌, ℕ, ◌==◌, ◌+◌, ◌<◌, Bool, true, false, ◌||◌, inl, inr, List, [], ◌∷◌, ◌++◌, length, get_or, take, Some, None, Option, cond, refl, subst, sym, ap, ◌∙◌, arith}
 use Rattle.std.specs.Prelude.{nat_eq, position, IfSome}
 use Rattle.std.specs.Global.{Vec}
-use Rattle.std.specs.List.{list_any, position_or_len}
+use Rattle.std.specs.List.{list_any}
 use Rattle.std.specs.Option.{option_or, is_some}
 use Rattle.std.specs.Str.{bytes_eq}
 use Rattle.std.proofs.Math.Bool.{or-false}
 use Rattle.std.proofs.lemmas.Bool.{cases_Bool, eqb-true}
 use Rattle.std.proofs.lemmas.Cmp.{nat_list_eq_equiv}
-use Rattle.std.proofs.lemmas.Grind.{common_steps}
-use Rattle.std.proofs.lemmas.List.{length-append, length-take-le, take_more}
-use Rattle.std.proofs.lemmas.List.Folds.{list_any-append, position_or_len_push}
-use Rattle.std.proofs.lemmas.List.Sums.{prefix_len-le-length}
+use Rattle.std.proofs.lemmas.List.{length-take-le, take_more}
+use Rattle.std.proofs.lemmas.List.Folds.{list_any-append}
 use Rattle.std.proofs.lemmas.Slice.Eq.{bytes_eq-Decides}
 use Rattle.indexmap.specs.IndexMap.{insert_entry}
 use Rattle.indexmap.specs.IndexSet.{insert_key}
 use Rattle.ld_base.specs.Version.{is_base}
 use Rattle.ld_base.specs.declared.linking.Loaded.{Loaded}
 use Rattle.ld_base.specs.declared.object.Verdef.{Verdef}
+use Rattle.scope_rule.specs.Lemmas.Placed.{position_pushed}
 use Rattle.scope_rule.specs.Needed.{defines}
 use Rattle.load_walk.specs.declared.lookup.Defined.{Defined}
 use Rattle.load_walk.specs.Lookup.{named, place_of, IsKnown, Knows}
 use Rattle.load_walk.proofs.Missing.{same_path}
-
--- one more element
-one_more : {X : Type 0} (p : X → Bool) (xs : List X) (x : X) → position p (xs ++ x ∷ []) ≡ option_or (position p xs) (cond (p x) (Some (length xs)) None)
-one_more p xs x =
-    let within : position_or_len p xs ≤ length xs = prefix_len-le-length (λ y. not (p y)) xs in
-    rw (position_or_len_push p xs x) (grind (arith, common_steps, length-append xs (x ∷ [])))
 
 -- the element behind the first n
 pub one_further : {X : Type 0} (p : X → Bool) (xs : List X) (n : ℕ) (x : X) → n < length xs → x ≡ get_or xs n x → position p (take (n + 1) xs) ≡ option_or (position p (take n xs)) (cond (p x) (Some n) None)
 one_further {X} p xs n x lt is =
     let all : length (take n xs) ≡ n = length-take-le n xs (omega arith) in
     let further : take (n + 1) xs ≡ take n xs ++ x ∷ [] = take_more xs n x lt ∙ ap (λ (y : X). take n xs ++ y ∷ []) (sym is) in
-    ap (λ (ys : List X). position p ys) further ∙ one_more p (take n xs) x ∙ ap (λ (m : ℕ). option_or (position p (take n xs)) (cond (p x) (Some m) None)) all
+    ap (λ (ys : List X). position p ys) further ∙ position_pushed p (take n xs) x ∙ ap (λ (m : ℕ). option_or (position p (take n xs)) (cond (p x) (Some m) None)) all
 
 -- a new name takes its place: by its own bytes
 pub place_added : (places : List (Vec ℕ × ℕ)) (name : Vec ℕ) (other : List ℕ) (n : ℕ) → is_some (place_of places name.items) ≡ false → place_of (insert_entry same_path places name n) other ≡ option_or (place_of places other) (cond (bytes_eq name.items other) (Some n) None)

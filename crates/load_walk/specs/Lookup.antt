@@ -7,7 +7,7 @@ use Rattle.std.specs.Str.{bytes_eq}
 use Rattle.ld_base.specs.declared.linking.Loaded.{Loaded}
 use Rattle.scope_rule.specs.Needed.{defines_version}
 use Rattle.load_walk.specs.declared.lookup.Defined.{Defined}
-use Rattle.load_walk.specs.declared.lookup.Places.{Places}
+use Rattle.load_walk.specs.declared.lookup.NamePlaces.{NamePlaces}
 
 -- one of the names is spelled so
 abbrev pub named : List (Vec ℕ) → List ℕ → Bool
@@ -18,7 +18,7 @@ abbrev pub place_of : List (Vec ℕ × ℕ) → List ℕ → Option ℕ
 place_of places bytes = lookup (λ name. bytes_eq bytes name.items) places
 
 -- a name's place is where it comes first
-abbrev pub ArePlacesOf : List (List ℕ) → Places → Type 0
+abbrev pub ArePlacesOf : List (List ℕ) → NamePlaces → Type 0
 ArePlacesOf names places = (bytes : List ℕ) → place_of places.firsts.entries bytes ≡ position (λ name. bytes_eq name bytes) names
 
 -- a version is one of those that are defined

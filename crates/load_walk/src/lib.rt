@@ -15,7 +15,7 @@
 #![tactic(auto)]
 
 mod ask;
-mod definers;
+mod defined_versions;
 mod driver;
 mod finding;
 mod format;

@@ -12,11 +12,11 @@ use std::alloc::{AllocError, Global};
 
 /// The first place of each name of a list.
 #[derive(Drop)]
-pub struct Places {
+pub struct NamePlaces {
     firsts: IndexMap<Vec<u8>, usize>,
 }
 
-impl Places {
+impl NamePlaces {
     /// Those of the names of a list.
     pub fn of(alloc: Global, names: &[Name]) -> Result<Self, AllocError>
         ensures { IfOk result (λ places. ArePlacesOf names.now places) }
@@ -25,7 +25,7 @@ impl Places {
         for (place, name) in names.iter().enumerate() {
             add_place(alloc, &mut firsts, name.as_bytes(), place)?;
         }
-        Ok(Places { firsts })
+        Ok(NamePlaces { firsts })
     }
 
     /// The place of a name, if it is one of them.

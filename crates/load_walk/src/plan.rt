@@ -1,6 +1,6 @@
 //! What a load brings.
 
-ghost use Rattle.std.specs.Prelude.{◌≡◌, ◌≤◌, ℕ, List, IfOk, IfErr};
+ghost use Rattle.std.specs.Prelude.{◌≡◌, ◌≤◌, ℕ, List, None, IfOk, IfErr};
 ghost use Rattle.std.specs.Result.{IsErrOf};
 ghost use Rattle.ld_base.specs.declared.fault.DlFault.{DlFault};
 ghost use Rattle.ld_base.specs.declared.fault.DlFault.TheVariants.{ReadFault};
@@ -8,6 +8,9 @@ ghost use Rattle.ld_base.specs.declared.fault.Shown.{Shown};
 ghost use Rattle.library_source.specs.Count.{Rises};
 ghost use Rattle.library_source.specs.Files.{Over};
 ghost use Rattle.load_walk.specs.Plan.{IsPlan, IsRefused, HasToWait};
+ghost use Rattle.scope_rule.specs.Breadth.{breadth};
+ghost use Rattle.scope_rule.specs.Needed.{version_fault};
+ghost use Rattle.scope_rule.specs.Seen.{seen_in, with_added};
 ghost use Rattle.load_walk.specs.Records.{Completes, Gathers, Incomplete};
 
 use crate::ask::{LoadAsk, LoadFault, LoadPlan};
@@ -16,9 +19,9 @@ use crate::format::Format;
 use crate::records::records;
 use crate::versions::missing_version;
 use crate::walker::Walker;
-use ld_base::{Added, Serial};
+use ld_base::{Added, Loaded, Serial, Serials};
 use library_source::Library;
-use scope_rule::{Namespace, breadth};
+use scope_rule::{IndexedView, Namespace, breadth_in};
 use std::alloc::{AllocError, Global};
 
 /// The root, and the records of the new objects.
@@ -36,8 +39,27 @@ fn gather(alloc: Global, ask: &LoadAsk, walker: Walker) -> Result<(Serial, Added
     Ok((root, added))
 }
 
-/// The plan with this root and these new objects, if every version that they need is there.
+/// What the root leads to, if every version that the new objects need is there.
 #[tactic(auto, using(crate::proofs::Planning::seen_versions, crate::proofs::Planning::seen_breadth))]
+fn breadth_of(
+    alloc: Global,
+    ns: &Namespace,
+    root: Serial,
+    added: &[Loaded],
+) -> Result<Serials, LoadFault>
+    ensures breadth { IfOk result (λ order. order ≡ breadth (with_added (seen_in ns.now) added.now) root) }
+    ensures versions { IfOk result (λ order. version_fault ns.now.objects added.now ≡ None) }
+    ensures fault { IfErr result (λ fault. Incomplete ns.now added.now fault) }
+{
+    let indexed = IndexedView::of(alloc, &ns.view_with(added))?;
+    if let Some(fault) = missing_version(alloc, &indexed, added)? {
+        return Err(LoadFault::Refused(fault));
+    }
+    let order = breadth_in(alloc, &indexed, root)?;
+    Ok(Serials::from_slice(alloc, order.as_slice())?)
+}
+
+/// The plan with this root and these new objects, if every version that they need is there.
 fn complete(
     alloc: Global,
     ns: &Namespace,
@@ -47,12 +69,7 @@ fn complete(
     ensures plan { IfOk result (λ plan. Completes ns.now root added plan) }
     ensures fault { IfErr result (λ fault. Incomplete ns.now added fault) }
 {
-    let new = added.as_slice();
-    let view = ns.view_with(new);
-    if let Some(fault) = missing_version(alloc, &view, new)? {
-        return Err(LoadFault::Refused(fault));
-    }
-    let breadth = breadth(alloc, &view, root)?;
+    let breadth = breadth_of(alloc, ns, root, added.as_slice())?;
     Ok(LoadPlan {
         root,
         added,

@@ -2,14 +2,13 @@
 
 ghost use Rattle.std.specs.Prelude.{◌≡◌, IfOk};
 ghost use Rattle.std.specs.Option.{option_copied};
-ghost use Rattle.scope_rule.specs.Seen.{seen};
 ghost use Rattle.scope_rule.specs.Needed.{is_weak_need, provider, lacks_version, first_lack, missing_version};
 ghost use Rattle.load_walk.specs.Lookup.{ArePlacesOf};
 
-use crate::definers::Definers;
-use crate::lookup::Places;
+use crate::defined_versions::DefinedVersions;
+use crate::lookup::NamePlaces;
 use ld_base::{DlFault, Loaded, Name, Serial, Verneed};
-use scope_rule::View;
+use scope_rule::IndexedView;
 use std::alloc::{AllocError, Global};
 
 /// Whether a needed version may be missing (VER_FLG_WEAK).
@@ -20,7 +19,7 @@ fn is_weak_need(need: &Verneed) -> bool
 }
 
 /// The object that the first of an object's needed names that is the file found.
-fn provider(object: &Loaded, places: &Places, file: &[u8]) -> Option<Serial>
+fn provider(object: &Loaded, places: &NamePlaces, file: &[u8]) -> Option<Serial>
     requires { ArePlacesOf object.now.object.needed places.now }
     ensures { result ≡ provider object.now file.now }
 {
@@ -37,14 +36,14 @@ fn provider(object: &Loaded, places: &Places, file: &[u8]) -> Option<Serial>
 /// Whether a version that an object needs isn't there.
 fn lacks_version(
     alloc: Global,
-    definers: &mut Definers,
+    defined: &mut DefinedVersions,
     object: &Loaded,
-    places: &Places,
+    places: &NamePlaces,
     need: &Verneed,
 ) -> Result<bool, AllocError>
     requires { ArePlacesOf object.now.object.needed places.now }
-    ensures answer { IfOk result (λ lacks. lacks ≡ lacks_version definers.old object.now need.now) }
-    ensures same { definers.new ≡ definers.old }
+    ensures answer { IfOk result (λ lacks. lacks ≡ lacks_version defined.old object.now need.now) }
+    ensures same { defined.new ≡ defined.old }
 {
     if is_weak_need(need) {
         return Ok(false);
@@ -52,22 +51,22 @@ fn lacks_version(
     let Some(serial) = provider(object, places, need.file.as_bytes()) else {
         return Ok(false);
     };
-    Ok(!definers.defines(alloc, serial, need.name.as_bytes())?)
+    Ok(!defined.defines(alloc, serial, need.name.as_bytes())?)
 }
 
 /// The first version that an object needs and that isn't there, by the places of its names.
 fn lack_among<'a>(
     alloc: Global,
-    definers: &mut Definers,
+    defined: &mut DefinedVersions,
     object: &'a Loaded,
-    places: &Places,
+    places: &NamePlaces,
 ) -> Result<Option<&'a Verneed>, AllocError>
     requires { ArePlacesOf object.now.object.needed places.now }
-    ensures lack { IfOk result (λ lack. option_copied lack ≡ first_lack definers.old object.now) }
-    ensures same { definers.new ≡ definers.old }
+    ensures lack { IfOk result (λ lack. option_copied lack ≡ first_lack defined.old object.now) }
+    ensures same { defined.new ≡ defined.old }
 {
     for need in object.object.verneeds.as_slice() {
-        if lacks_version(alloc, definers, object, places, need)? {
+        if lacks_version(alloc, defined, object, places, need)? {
             return Ok(Some(need));
         }
     }
@@ -77,14 +76,14 @@ fn lack_among<'a>(
 /// The first version that an object needs and that isn't there.
 fn first_lack<'a>(
     alloc: Global,
-    definers: &mut Definers,
+    defined: &mut DefinedVersions,
     object: &'a Loaded,
 ) -> Result<Option<&'a Verneed>, AllocError>
-    ensures lack { IfOk result (λ lack. option_copied lack ≡ first_lack definers.old object.now) }
-    ensures same { definers.new ≡ definers.old }
+    ensures lack { IfOk result (λ lack. option_copied lack ≡ first_lack defined.old object.now) }
+    ensures same { defined.new ≡ defined.old }
 {
-    let places = Places::of(alloc, object.object.needed.as_slice())?;
-    lack_among(alloc, definers, object, &places)
+    let places = NamePlaces::of(alloc, object.object.needed.as_slice())?;
+    lack_among(alloc, defined, object, &places)
 }
 
 /// The refusal of an object that needs a version that isn't there.
@@ -100,13 +99,13 @@ fn version_fault(alloc: Global, object: &Loaded, need: &Verneed) -> Result<DlFau
 /// The first refusal of new objects, in load order, from what is known of the objects of their namespace.
 fn first_fault(
     alloc: Global,
-    definers: &mut Definers,
+    defined: &mut DefinedVersions,
     added: &[Loaded],
 ) -> Result<Option<DlFault>, AllocError>
-    ensures { IfOk result (λ fault. fault ≡ missing_version definers.old added.now) }
+    ensures { IfOk result (λ fault. fault ≡ missing_version defined.old added.now) }
 {
     for object in added {
-        if let Some(need) = first_lack(alloc, definers, object)? {
+        if let Some(need) = first_lack(alloc, defined, object)? {
             return Ok(Some(version_fault(alloc, object, need)?));
         }
     }
@@ -116,14 +115,11 @@ fn first_fault(
 /// The first refusal of new objects, in load order, for a version that isn't there.
 pub(crate) fn missing_version(
     alloc: Global,
-    view: &View,
+    indexed: &IndexedView,
     added: &[Loaded],
 ) -> Result<Option<DlFault>, AllocError>
-    ensures { IfOk result (λ fault. fault ≡ missing_version (seen view.now).objects added.now) }
+    ensures { IfOk result (λ fault. fault ≡ missing_version indexed.now.objects added.now) }
 {
-    if added.is_empty() {
-        return Ok(None);
-    }
-    let mut definers = Definers::of(alloc, view)?;
-    first_fault(alloc, &mut definers, added)
+    let mut defined = DefinedVersions::of(alloc, indexed);
+    first_fault(alloc, &mut defined, added)
 }

@@ -2,9 +2,10 @@
 use Rattle.std.proofs.Common.{◌≡◌, ℕ, zero, suc, Bool, true, false, cond, List, [], ◌∷◌, ◌++◌, length, refl, sym, ap, eq-eqb, ◌∙◌}
 use Rattle.std.specs.Prelude.{◌==◌, ◌||◌, not, flat_map, Option, Some, None}
 use Rattle.std.specs.List.{list_all, list_any}
-use Rattle.std.proofs.lemmas.Bool.{and_parts, eqb-true, true≢false}
+use Rattle.std.proofs.lemmas.Bool.{and_parts, eqb-true, or_parts, true≢false}
 use Rattle.ld_base.specs.declared.linking.Loaded.{Loaded}
 use Rattle.scope_rule.specs.Breadth.{breadth, extend, has, order_to}
+use Rattle.scope_rule.specs.Lemmas.Orders.{breadth_grows}
 use Rattle.scope_rule.specs.Loading.{found_of, object_of, with_serial}
 use Rattle.scope_rule.specs.Seen.{Seen}
 use Rattle.scope_lists.specs.Brought.{brought_to}
@@ -13,10 +14,6 @@ use Rattle.scope_lists.specs.Owners.{leads_elsewhere}
 or_second : (a b : Bool) → b ≡ true → (a || b) ≡ true
 or_second true b e = refl
 or_second false b e = e
-
-or_none : (a b : Bool) → (a || b) ≡ false → (a ≡ false) × (b ≡ false)
-or_none true b e = absurd (true≢false e)
-or_none false b e = (refl, e)
 
 not_true : (a : Bool) → not a ≡ true → a ≡ false
 not_true true e = absurd (true≢false (sym e))
@@ -69,7 +66,7 @@ module _ (owners : List ℕ) where
 
   none_any : (xs : List ℕ) → list_any (λ x. has owners x) xs ≡ false → HasNone xs
   none_any [] none = nothing
-  none_any (y ∷ ys) none = (let parts = or_none (has owners y) (list_any (λ x. has owners x) ys) none in one_more y ys parts.0 (none_any ys parts.1))
+  none_any (y ∷ ys) none = (let parts = or_parts (has owners y) (list_any (λ x. has owners x) ys) none in one_more y ys parts.0 (none_any ys parts.1))
 
   leads_none : (o : Loaded) → leads_elsewhere owners o ≡ true → has owners o.serial ≡ false → HasNone o.found
   leads_none o leads other =
@@ -97,13 +94,13 @@ module _ (owners : List ℕ) where
       by false = found_none s.objects all z other
 
   -- so an opening whose root isn't one brings nothing to one
-  pub brings_nothing : (s : Seen) (root q : ℕ) → ((t : Seen) (x : ℕ) → breadth t x ≡ order_to (found_of t) (extend [] (x ∷ [])) (length t.objects)) → list_all (leads_elsewhere owners) s.objects ≡ true
+  pub brings_nothing : (s : Seen) (root q : ℕ) → list_all (leads_elsewhere owners) s.objects ≡ true
       → has owners root ≡ false → has owners q ≡ true → [] ≡ brought_to (breadth s root) q
-  brings_nothing s root q law all other own = by (has (breadth s root) q) refl
+  brings_nothing s root q all other own = by (has (breadth s root) q) refl
     where
       none : HasNone (order_to (found_of s) (extend [] (root ∷ [])) (length s.objects))
       none = order_none (found_of s) (extend [] (root ∷ [])) (leads_nowhere s all) (extended_none [] (root ∷ []) nothing (one_more root [] other nothing)) (length s.objects)
 
       by : (there : Bool) → has (breadth s root) q ≡ there → [] ≡ cond there (breadth s root) []
       by false is = refl
-      by true is = absurd (true≢false (sym own ∙ none q (ap (λ (xs : List ℕ). has xs q) (sym (law s root)) ∙ is)))
+      by true is = absurd (true≢false (sym own ∙ none q (ap (λ (xs : List ℕ). has xs q) (sym (breadth_grows s root)) ∙ is)))

@@ -2,8 +2,9 @@
 use Rattle.std.proofs.Common.{◌≡◌, ℕ, zero, suc, Bool, true, false, cond, List, [], ◌∷◌, ◌++◌, length, refl, sym, ap, ◌∙◌}
 use Rattle.std.specs.Prelude.{◌==◌, ◌||◌, ◌&&◌, flat_map}
 use Rattle.std.specs.List.{list_all}
-use Rattle.std.proofs.lemmas.Bool.{and_parts, eqb-true}
+use Rattle.std.proofs.lemmas.Bool.{and_parts, eqb-true, or_parts}
 use Rattle.scope_rule.specs.Breadth.{breadth, extend, has, order_to}
+use Rattle.scope_rule.specs.Lemmas.Orders.{breadth_grows}
 use Rattle.scope_rule.specs.Loading.{found_of}
 use Rattle.scope_rule.specs.Seen.{Seen}
 use Rattle.scope_rule.specs.declared.namespace.OpenRec.{OpenRec}
@@ -12,10 +13,6 @@ use Rattle.scope_lists.specs.Covering.{IsCovered}
 use Rattle.scope_lists.specs.Links.{AreLinks}
 use Rattle.scope_lists.specs.declared.links.Links.{Links}
 use Rattle.scope_lists.proofs.Ended.{each_passes}
-
-or_none : (a b : Bool) → (a || b) ≡ false → a ≡ false
-or_none true b e = absurd (cc e)
-or_none false b e = refl
 
 module _ (global : List ℕ) where
   -- each of a list is on the global list; the same, the linker's own object left out
@@ -62,7 +59,7 @@ module _ (global : List ℕ) where
     where
       by : (skipped : Bool) → (y == 0 || has a y) ≡ skipped → Inside (extend a ys) → (Inside (a ++ y ∷ []) → Inside (extend (a ++ y ∷ []) ys)) → Inside (cond skipped (extend a ys) (extend (a ++ y ∷ []) ys))
       by true is old new = old
-      by false is old new = new (both_inside a (y ∷ []) first (first_mostly y ys second (or_none (y == 0) (has a y) is)))
+      by false is old new = new (both_inside a (y ∷ []) first (first_mostly y ys second (or_parts (y == 0) (has a y) is).0))
 
   each_mostly : (f : ℕ → List ℕ) → ((z : ℕ) → Mostly (f z)) → (zs : List ℕ) → Mostly (flat_map f zs)
   each_mostly f leads [] x there some = absurd (cc there)
@@ -72,11 +69,11 @@ module _ (global : List ℕ) where
   order_inside f first leads inside zero = inside
   order_inside f first leads inside (suc n) = extended_inside first (flat_map f (order_to f first n)) inside (each_mostly f leads (order_to f first n))
 
-  module _ (s : Seen) (grows : (t : Seen) (x : ℕ) → breadth t x ≡ order_to (found_of t) (extend [] (x ∷ [])) (length t.objects)) (leads : (z : ℕ) → Mostly (found_of s z)) where
+  module _ (s : Seen) (leads : (z : ℕ) → Mostly (found_of s z)) where
     -- what leads to no other is inside where its root is
     breadth_inside : (root : ℕ) → has global root ≡ true → Inside (breadth s root)
     breadth_inside root there x inside =
-        order_inside (found_of s) (extend [] (root ∷ [])) leads (extended_inside [] (root ∷ []) nothing (λ y here some. by y (root == y) refl here)) (length s.objects) x (ap (λ (xs : List ℕ). has xs x) (sym (grows s root)) ∙ inside)
+        order_inside (found_of s) (extend [] (root ∷ [])) leads (extended_inside [] (root ∷ []) nothing (λ y here some. by y (root == y) refl here)) (length s.objects) x (ap (λ (xs : List ℕ). has xs x) (sym (breadth_grows s root)) ∙ inside)
       where
         by : (y : ℕ) (own : Bool) → (root == y) ≡ own → (own || false) ≡ true → has global y ≡ true
         by y true same here = ap (has global) (sym (eqb-true root y same)) ∙ there
@@ -101,13 +98,13 @@ all_roots keys global inside (r ∷ rest) all =
     let parts = and_parts (has keys r.root) (list_all (λ x. has keys x.root) rest) all in
     ap (λ b. b && list_all (λ x. has global x.root) rest) (inside r.root parts.0) ∙ all_roots keys global inside rest parts.1
 
-pub covers : (s : Seen) (links : Links) (keys : List ℕ) → ((t : Seen) (x : ℕ) → breadth t x ≡ order_to (found_of t) (extend [] (x ∷ [])) (length t.objects)) → AreLinks s links → keys ≡ extend [] s.global
+pub covers : (s : Seen) (links : Links) (keys : List ℕ) → AreLinks s links → keys ≡ extend [] s.global
     → (list_all (λ x. has keys x) links.all && list_all (λ r. has keys r.root) s.opens) ≡ true → (serial : ℕ) → has keys serial ≡ true → IsCovered s serial
-covers s links keys grows are is all serial there x inside =
+covers s links keys are is all serial there x inside =
     let parts = and_parts (list_all (λ y. has keys y) links.all) (list_all (λ r. has keys r.root) s.opens) all in
     let listed : (y : ℕ) → has keys y ≡ true → has s.global y ≡ true = λ y here. extended_inside s.global [] s.global (nothing s.global) (λ z own some. own) y (ap (λ (xs : List ℕ). has xs y) (sym is) ∙ here) in
     let leads : (z : ℕ) → Mostly s.global (found_of s z) = λ z y found some. listed y (each_passes (λ q. has keys q) links.all y parts.0 (are.all z y found some)) in
-    both_inside s.global (brought_in s serial) (breadth s serial) (all_brought s.global s grows leads s.opens serial (all_roots keys s.global listed s.opens parts.1)) (breadth_inside s.global s grows leads serial (listed serial there)) x inside
+    both_inside s.global (brought_in s serial) (breadth s serial) (all_brought s.global s leads s.opens serial (all_roots keys s.global listed s.opens parts.1)) (breadth_inside s.global s leads serial (listed serial there)) x inside
 
 pub covers_none : (s : Seen) (keys : List ℕ) → keys ≡ [] → (serial : ℕ) → has keys serial ≡ true → IsCovered s serial
 covers_none s keys none serial there = absurd (let no : false ≡ true = ap (λ (xs : List ℕ). has xs serial) (sym none) ∙ there in cc no)

@@ -13,7 +13,7 @@ use Rattle.ld_base.specs.declared.linking.Loaded.{Loaded}
 use Rattle.ld_base.specs.declared.object.Object.{Object}
 use Rattle.ld_base.specs.declared.object.Symbol.{Symbol}
 use Rattle.sym_hash.specs.Hash.{gnu_hash}
-use Rattle.scope_lists.specs.Definers.{AreDefiners, AreDefinersBelow, Defines, DefinesAs, DefinesAt, DefinesBelow, DefinesMore, IsFirstFrom, IsNextDefiner, object_in, object_of_entry, rank}
+use Rattle.scope_lists.specs.Definers.{AreDefiners, AreDefinersBelow, Defines, DefinesAs, DefinesAt, DefinesMore, IsFirstFrom, IsNextDefiner, object_in, object_of_entry, rank}
 use Rattle.scope_lists.specs.NameOrder.{exports, is_offered, name_at}
 use Rattle.scope_lists.specs.Searched.{object_at}
 use Rattle.scope_lists.specs.declared.definers.Definer.{Definer}
@@ -34,6 +34,10 @@ exported_within o test k is =
           absurd (true≢false (sym passes ∙ ap (λ (s : Option Symbol). option_map_or test s false) (slice_get_past o.symbols k past)))
     ]
 
+-- of the first so many symbols of an object one is a definition under a hash
+abbrev pub DefinesBelow : ℕ → Object → ℕ → Type 0
+DefinesBelow count o hash = (index : ℕ) × (index < count) × DefinesAs o hash index
+
 module _ (o : Object) (hash : ℕ) where
   defines_any : (n : ℕ) → DefinesBelow n o hash → Defines o hash
   defines_any n (k, lt, one) = (k, one)
@@ -53,7 +57,7 @@ module _ (o : Object) (hash : ℕ) where
       ]
 
 module _ (o : Object) (n place : ℕ) (old new : List Definer) where
-  pub more_skipped : DefinesMore n o place old new → exports o (is_offered o) n ≡ false → DefinesMore (n + 1) o place old new
+  pub more_skipped : DefinesMore (DefinesBelow n o) place old new → exports o (is_offered o) n ≡ false → DefinesMore (DefinesBelow (n + 1) o) place old new
   more_skipped more other d = (
     λ here. elim ((more d).0 here) [ inl was ↦ inl was | inr one ↦ inr (one.0, defines_later o d.hash n one.1) ],
     λ either. elim either [
@@ -62,7 +66,7 @@ module _ (o : Object) (n place : ℕ) (old new : List Definer) where
     ],
   )
 
-  pub more_pushed : (hash : ℕ) → DefinesMore n o place old new → exports o (is_offered o) n ≡ true → hash ≡ gnu_hash (name_at o n) → DefinesMore (n + 1) o place old (new ++ definer_at hash place ∷ [])
+  pub more_pushed : (hash : ℕ) → DefinesMore (DefinesBelow n o) place old new → exports o (is_offered o) n ≡ true → hash ≡ gnu_hash (name_at o n) → DefinesMore (DefinesBelow (n + 1) o) place old (new ++ definer_at hash place ∷ [])
   more_pushed hash more is hashed d = (
     λ here. elim (Contains-push_cases new (definer_at hash place) d here) [
       | inl before ↦ elim ((more d).0 before) [ inl was ↦ inl was | inr one ↦ inr (one.0, defines_later o d.hash n one.1) ]
@@ -79,6 +83,16 @@ module _ (o : Object) (n place : ℕ) (old new : List Definer) where
     ],
   )
 
+-- at first none is, and at last it is all of the object's
+pub none_more : (o : Object) (place : ℕ) (old : List Definer) → DefinesMore (DefinesBelow 0 o) place old old
+none_more o place old d = (λ here. inl here, λ either. elim either [ inl was ↦ was | inr one ↦ absurd (let lt = one.1.1 in omega (arith, lt)) ])
+
+pub all_more : (o : Object) (n place : ℕ) (old new : List Definer) → n ≡ length o.symbols → DefinesMore (DefinesBelow n o) place old new → DefinesMore (Defines o) place old new
+all_more o n place old new all more d = (
+  λ here. elim ((more d).0 here) [ inl was ↦ inl was | inr one ↦ inr (one.0, defines_any o d.hash n one.1) ],
+  λ either. (more d).1 (elim either [ inl was ↦ inl was | inr one ↦ inr (one.0, subst (λ (k : ℕ). DefinesBelow k o d.hash) (sym all) (defines_below o d.hash one.1)) ]),
+)
+
 -- ---- the objects of a list
 
 -- that of the entry at a place
@@ -89,11 +103,11 @@ object_there objects list place entry found lt is here =
 
 module _ (objects : List Loaded) (list : List Searched) (p : ℕ) (old new : List Definer) where
   -- the object at a place more is there, or isn't
-  pub below_more : (o : Object) → object_in objects list p ≡ Some o → AreDefinersBelow p objects list old → DefinesMore (length o.symbols) o p old new → AreDefinersBelow (p + 1) objects list new
+  pub below_more : (o : Object) → object_in objects list p ≡ Some o → AreDefinersBelow p objects list old → DefinesMore (Defines o) p old new → AreDefinersBelow (p + 1) objects list new
   below_more o stands are more d = (
     λ here. elim ((more d).0 here) [
       | inl was ↦ (let one = (are d).0 was in (omega (arith, one.0), one.1))
-      | inr one ↦ (omega (arith, one.0), record { object = o; stands = ap (object_in objects list) one.0 ∙ stands; defines = defines_any o d.hash (length o.symbols) one.1 })
+      | inr one ↦ (omega (arith, one.0), record { object = o; stands = ap (object_in objects list) one.0 ∙ stands; defines = one.1 })
     ],
     λ one. elim (cases_lt d.place p) [
       | inl lt ↦ (more d).1 (inl ((are d).1 (lt, one.1)))
@@ -101,7 +115,7 @@ module _ (objects : List Loaded) (list : List Searched) (p : ℕ) (old new : Lis
           let same : d.place ≡ p = omega (arith, one.0) in
           let both : Some one.1.object ≡ Some o = sym one.1.stands ∙ ap (object_in objects list) same ∙ stands in
           let own : one.1.object ≡ o = cc both in
-          (more d).1 (inr (same, defines_below o d.hash (subst (λ (x : Object). Defines x d.hash) own one.1.defines)))
+          (more d).1 (inr (same, subst (λ (x : Object). Defines x d.hash) own one.1.defines))
     ],
   )
 

@@ -1,14 +1,14 @@
 -- Orders that have everything, so that no level adds to them.
-use Rattle.std.proofs.Common.{◌≡◌, ℕ, ◌+◌, ◌-◌, ◌≤◌, Bool, true, false, cond, List, [], ◌∷◌, ◌++◌, drop, map, take, refl, sym, ap, ◌∙◌, eq-eqb, arith}
+use Rattle.std.proofs.Common.{◌≡◌, inl, inr, ℕ, ◌+◌, ◌-◌, ◌≤◌, Bool, true, false, cond, List, [], ◌∷◌, ◌++◌, drop, map, take, refl, sym, ap, ◌∙◌, eq-eqb, arith}
 use Rattle.std.specs.List.{flat_map, list_all}
-use Rattle.std.proofs.lemmas.Bool.{and_parts, eqb-true}
+use Rattle.std.proofs.lemmas.Bool.{and_parts, cases_Bool, eqb-true}
 use Rattle.std.specs.Prelude.{◌==◌, ◌&&◌, ◌||◌, Option, Some, None}
 use Rattle.ld_base.specs.declared.linking.Loaded.{Loaded}
 use Rattle.scope_rule.specs.Breadth.{extend, has, order_to}
+use Rattle.scope_rule.specs.Lemmas.Orders.{Covered, covered_stays, extend_append, in_extended, level_step, stays}
 use Rattle.scope_rule.specs.Loading.{found_of, object_of, with_serial}
 use Rattle.scope_rule.specs.Seen.{Seen}
 use Rattle.scope_lists.specs.Links.{found_once}
-use Rattle.scope_lists.proofs.Orders.{OneByOne, in_extended, level_step, stays}
 
 or_first : (a b : Bool) → a ≡ true → (a || b) ≡ true
 or_first true b e = refl
@@ -23,26 +23,24 @@ or_second false b e = e
 abbrev HasAll : List ℕ → List ℕ → Type 0
 HasAll order ys = (y : ℕ) → has ys y ≡ true → (y == 0) ≡ false → has order y ≡ true
 
-nothing_by : (order ys : List ℕ) (y : ℕ) (zero_is : Bool) → (y == 0) ≡ zero_is → (zero_is ≡ false → has order y ≡ true) → extend order ys ≡ order → extend order (y ∷ ys) ≡ order
-nothing_by order ys y true e there later = ap (λ b. cond (b || has order y) (extend order ys) (extend (order ++ y ∷ []) ys)) e ∙ later
-nothing_by order ys y false e there later =
-    ap (λ b. cond (b || has order y) (extend order ys) (extend (order ++ y ∷ []) ys)) e
-    ∙ ap (λ b. cond b (extend order ys) (extend (order ++ y ∷ []) ys)) (there refl)
-    ∙ later
+covered : (order ys : List ℕ) → HasAll order ys → Covered order ys
+covered order [] all = tt
+covered order (y ∷ ys) all = (first, covered order ys (λ z there some. all z (or_second (y == z) (has ys z) there) some))
+  where
+    first : (y == 0 || has order y) ≡ true
+    first = elim (cases_Bool (y == 0)) [
+      | inl zeroth ↦ or_first (y == 0) (has order y) zeroth
+      | inr other ↦ or_second (y == 0) (has order y) (all y (or_first (y == y) (has ys y) (eq-eqb y y refl)) other)
+    ]
 
-extend_nothing : (order ys : List ℕ) → HasAll order ys → extend order ys ≡ order
-extend_nothing order [] all = refl
-extend_nothing order (y ∷ ys) all =
-    nothing_by order ys y (y == 0) refl (λ e. all y (or_first (y == y) (has ys y) (eq-eqb y y refl)) e) (extend_nothing order ys (λ z there some. all z (or_second (y == z) (has ys z) there) some))
-
-level_nothing : OneByOne → (f : ℕ → List ℕ) (order zs : List ℕ) → ((z : ℕ) → HasAll order (f z)) → extend order (flat_map f zs) ≡ order
-level_nothing law f order [] all = refl
-level_nothing law f order (z ∷ zs) all = law order (f z) (flat_map f zs) ∙ ap (λ (o : List ℕ). extend o (flat_map f zs)) (extend_nothing order (f z) (all z)) ∙ level_nothing law f order zs all
+level_nothing : (f : ℕ → List ℕ) (order zs : List ℕ) → ((z : ℕ) → HasAll order (f z)) → extend order (flat_map f zs) ≡ order
+level_nothing f order [] all = refl
+level_nothing f order (z ∷ zs) all = extend_append order (f z) (flat_map f zs) ∙ ap (λ (o : List ℕ). extend o (flat_map f zs)) (covered_stays order (f z) (covered order (f z) (all z))) ∙ level_nothing f order zs all
 
 -- so it is the order of all levels
-pub has_levels : OneByOne → (f : ℕ → List ℕ) (first order : List ℕ) (n most start : ℕ) → n ≤ most → ((z : ℕ) → HasAll order (f z)) → order ≡ order_to f first n → order ≡ extend first (flat_map f (take start order)) → order ≡ order_to f first most
-has_levels law f first order n most start few all kept grown =
-    let whole : order ≡ extend first (flat_map f order) = sym (level_nothing law f order (drop start order) all) ∙ level_step law f first start order grown in
+pub has_levels : (f : ℕ → List ℕ) (first order : List ℕ) (n most start : ℕ) → n ≤ most → ((z : ℕ) → HasAll order (f z)) → order ≡ order_to f first n → order ≡ extend first (flat_map f (take start order)) → order ≡ order_to f first most
+has_levels f first order n most start few all kept grown =
+    let whole : order ≡ extend first (flat_map f order) = sym (level_nothing f order (drop start order) all) ∙ level_step f first start order grown in
     let many : (most - n) + n ≡ most = omega arith in
     stays f first n (most - n) order kept whole ∙ ap (order_to f first) many
 

@@ -4,7 +4,6 @@ pub mod Covers
 pub mod Defining
 pub mod Ended
 pub mod KeptOrders
-pub mod Orders
 pub mod Parts
 pub mod Stands
 pub mod States

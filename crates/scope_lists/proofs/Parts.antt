@@ -8,6 +8,7 @@ use Rattle.std.proofs.lemmas.Bool.{eqb-true}
 use Rattle.ld_base.specs.declared.linking.Loaded.{Loaded}
 use Rattle.scope_rule.specs.Breadth.{breadth, has}
 use Rattle.scope_rule.specs.Choose.{first_with}
+use Rattle.scope_rule.specs.Lemmas.Orders.{first_of_two}
 use Rattle.scope_rule.specs.Loading.{is_dying}
 use Rattle.scope_rule.specs.Scope.{scope, whole_scope}
 use Rattle.scope_rule.specs.Seen.{Seen}
@@ -25,15 +26,6 @@ use Rattle.scope_lists.proofs.Stands.{entries_noted, sees_all}
 module _ (pick : ℕ → Option ℕ) where
   abbrev with_next : ℕ → Option ℕ → Option (ℕ × ℕ) → Option (ℕ × ℕ)
   with_next x found rest = elim found [ Some index ↦ Some (x, index) | None ↦ rest ]
-
-  first_append : (xs ys : List ℕ) → first_with pick (xs ++ ys) ≡ option_or (first_with pick xs) (first_with pick ys)
-  first_append [] ys = refl
-  first_append (x ∷ xs) ys = by (pick x) (first_append xs ys)
-    where
-      by : (found : Option ℕ) → first_with pick (xs ++ ys) ≡ option_or (first_with pick xs) (first_with pick ys)
-          → with_next x found (first_with pick (xs ++ ys)) ≡ option_or (with_next x found (first_with pick xs)) (first_with pick ys)
-      by (Some index) later = refl
-      by None later = later
 
   -- where nothing is found no element has anything
   none_at : (xs : List ℕ) (x : ℕ) → first_with pick xs ≡ None → has xs x ≡ true → pick x ≡ None
@@ -60,14 +52,14 @@ module _ (pick : ℕ → Option ℕ) where
 
   -- what stands in one list already finds nothing behind it
   covered_behind : (xs ys zs : List ℕ) → ((y : ℕ) → has ys y ≡ true → has xs y ≡ true) → first_with pick (xs ++ zs) ≡ first_with pick (xs ++ ys ++ zs)
-  covered_behind xs ys zs inside = first_append xs zs ∙ by (first_with pick xs) refl ∙ sym (first_append (xs ++ ys) zs ∙ ap (λ (found : Option (ℕ × ℕ)). option_or found (first_with pick zs)) (first_append xs ys))
+  covered_behind xs ys zs inside = first_of_two pick xs zs ∙ by (first_with pick xs) refl ∙ sym (first_of_two pick (xs ++ ys) zs ∙ ap (λ (found : Option (ℕ × ℕ)). option_or found (first_with pick zs)) (first_of_two pick xs ys))
     where
       by : (found : Option (ℕ × ℕ)) → first_with pick xs ≡ found → option_or found (first_with pick zs) ≡ option_or (option_or found (first_with pick ys)) (first_with pick zs)
       by (Some m) is = refl
       by None is = ap (λ (o : Option (ℕ × ℕ)). option_or o (first_with pick zs)) (sym (none_in ys (λ y there. none_at xs y is (inside y there))))
 
   alike_behind : (a xs ys : List ℕ) → first_with pick xs ≡ first_with pick ys → first_with pick (a ++ xs) ≡ first_with pick (a ++ ys)
-  alike_behind a xs ys alike = first_append a xs ∙ ap (option_or (first_with pick a)) alike ∙ sym (first_append a ys)
+  alike_behind a xs ys alike = first_of_two pick a xs ∙ ap (option_or (first_with pick a)) alike ∙ sym (first_of_two pick a ys)
 
 -- ---- the whole scope of an object
 

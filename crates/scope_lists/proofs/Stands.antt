@@ -1,19 +1,19 @@
 -- What stands where.
 use Rattle.std.proofs.Common.{◌≡◌, ℕ, zero, suc, ◌+◌, ◌<◌, ◌≤◌, ◌==◌, Bool, true, false, cond, inl, inr, List, [], ◌∷◌, ◌++◌, length, map, take, refl, subst, sym, ap, append-nil, eq-eqb, get_or, ◌∙◌, arith}
-use Rattle.std.specs.Prelude.{nat_eq, not, ◌||◌, filter, flat_map, option_map, position, unwrap_or, IfOk, IfSome, IsSome, OnOk, Option, Some, None, Result, Ok, Err}
+use Rattle.std.specs.Prelude.{nat_eq, not, ◌||◌, filter, flat_map, option_map, unwrap_or, IfOk, IfSome, IsSome, OnOk, Option, Some, None, Result, Ok, Err}
 use Rattle.std.specs.declared.alloc.AllocError.{AllocError}
 use Rattle.std.specs.Map.{lookup}
-use Rattle.std.specs.List.{AllByRecursion, find, list_any, slice_get}
+use Rattle.std.specs.List.{AllByRecursion, list_any, slice_get}
 use Rattle.std.proofs.lemmas.Bool.{cases_Bool, eqb-true}
 use Rattle.std.proofs.lemmas.Grind.{common_steps, flat_map-append}
-use Rattle.std.proofs.lemmas.List.{take_more}
-use Rattle.std.proofs.lemmas.List.Folds.{find_at}
+use Rattle.std.proofs.lemmas.List.{length-map, take_more}
 use Rattle.std.proofs.lemmas.List.Quantifiers.{position-Some}
-use Rattle.std.proofs.lemmas.Option.{slice_get_within}
+use Rattle.std.proofs.lemmas.Option.{slice_get-map, slice_get_within}
 use Rattle.ld_base.specs.declared.linking.Loaded.{Loaded}
 use Rattle.scope_rule.specs.Loading.{found_of, is_dying, is_dying_at, object_of, with_serial}
 use Rattle.scope_rule.specs.Breadth.{breadth, extend}
 use Rattle.scope_rule.specs.Choose.{first_with}
+use Rattle.scope_rule.specs.Lemmas.Placed.{none_found, object_found}
 use Rattle.scope_rule.specs.Seen.{Seen}
 use Rattle.scope_rule.specs.declared.namespace.OpenRec.{OpenRec}
 use Rattle.scope_lists.specs.Brought.{brought_to}
@@ -21,7 +21,7 @@ use Rattle.scope_lists.specs.Definers.{AreDefiners}
 use Rattle.scope_lists.specs.Kept.{ArePlaced, AreScopes, IsScope, KeepsAll, entry_in, entry_of, kept_at, kept_in}
 use Rattle.scope_lists.specs.Links.{found_once}
 use Rattle.scope_lists.specs.Lists.{AreListed, AreListsOf, ArePartsOf, IsListed, IsListedAt, IsSearched}
-use Rattle.scope_rule.specs.Places.{ArePlaces, place_in, place_of, serials, serials_of}
+use Rattle.scope_rule.specs.Places.{ArePlaces, place_in, place_of, serials_of}
 use Rattle.scope_lists.specs.Searched.{at_place, in_parts, serials_in}
 use Rattle.scope_lists.specs.declared.definers.Definer.{Definer}
 use Rattle.scope_lists.specs.declared.kept.KeptScope.{KeptScope}
@@ -34,28 +34,6 @@ use Rattle.scope_lists.specs.VersionPlaces.Places.{places_of}
 use Rattle.scope_lists.specs.declared.version_places.names.VersionPlace.{VersionPlace}
 
 -- ---- the first place of a serial
-
-length_serials : (objects : List Loaded) → length (serials objects) ≡ length objects
-length_serials [] = refl
-length_serials (o ∷ rest) = ap suc (length_serials rest)
-
-place_mapped : {X : Type 0} (f : X → ℕ) (xs : List X) (q : ℕ) → place_in (map f xs) q ≡ position (λ x. f x == q) xs
-place_mapped f [] q = refl
-place_mapped f (x ∷ xs) q = grind (arith, common_steps, place_mapped f xs q)
-
--- the element at its first place is the first
-found_by : {X : Type 0} (p : X → Bool) (xs : List X) (k : ℕ) → position p xs ≡ Some k → slice_get xs k ≡ find p xs
-found_by p xs k e = sym (find_at p xs ∙ ap (slice_get xs) (grind (arith, common_steps)))
-
-none_by : {X : Type 0} (p : X → Bool) (xs : List X) → position p xs ≡ None → None ≡ find p xs
-none_by p [] e = refl
-none_by p (x ∷ xs) e = grind (arith, common_steps, none_by p xs)
-
-pub object_found : (s : Seen) (q k : ℕ) (o : Option Loaded) → place_in (serials_of s) q ≡ Some k → o ≡ slice_get s.objects k → o ≡ object_of s q
-object_found s q k o at is = is ∙ found_by (λ (x : Loaded). x.serial == q) s.objects k (sym (place_mapped (λ (x : Loaded). x.serial) s.objects q) ∙ at)
-
-pub none_found : (s : Seen) (q : ℕ) → place_in (serials_of s) q ≡ None → None ≡ object_of s q
-none_found s q at = none_by (λ (x : Loaded). x.serial == q) s.objects (sym (place_mapped (λ (x : Loaded). x.serial) s.objects q) ∙ at)
 
 -- a place that is the first of a serial has its object
 pub placed : (s : Seen) (q : ℕ) (place : Option ℕ) → place ≡ place_in (serials_of s) q → at_place s place ≡ object_of s q
@@ -76,7 +54,7 @@ one_at (o ∷ rest) zero lt = (o, refl)
 one_at (o ∷ rest) (suc k) lt = one_at rest k (omega arith)
 
 object_there : (s : Seen) (q k : ℕ) → place_in (serials_of s) q ≡ Some k → (o : Loaded) × (slice_get s.objects k ≡ Some o)
-object_there s q k at = one_at s.objects k (omega (arith, (position-Some (λ n. n == q) (serials_of s) k 0 at).0, length_serials s.objects))
+object_there s q k at = one_at s.objects k (omega (arith, (position-Some (λ n. n == q) (serials_of s) k 0 at).0, length-map s.objects (λ (o : Loaded). o.serial)))
 
 -- ---- what the openings bring
 
@@ -110,12 +88,6 @@ sees_all s o xs sees = kept_all (λ x. is_dying o || not (is_dying_at s x)) each
 
 -- ---- what objects lead to
 
--- the element at a place of a list that is made from another
-mapped_at : {X Y : Type 0} (f : X → Y) (xs : List X) (k : ℕ) → slice_get (map f xs) k ≡ option_map f (slice_get xs k)
-mapped_at f [] k = refl
-mapped_at f (x ∷ xs) zero = refl
-mapped_at f (x ∷ xs) (suc k) = mapped_at f xs k
-
 abbrev once_on : Option Loaded → List ℕ
 once_on o = extend [] (elim o [ Some x ↦ x.found | None ↦ [] ])
 
@@ -130,7 +102,7 @@ found_is s q some = ap (λ (b : Bool). extend [] (cond b [] (elim (object_of s q
 pub linked_there : (s : Seen) (q k : ℕ) (found : List (List ℕ)) → (q == 0) ≡ false → place_in (serials_of s) q ≡ Some k → found ≡ map found_once s.objects → unwrap_or (slice_get found k) [] ≡ extend [] (found_of s q)
 linked_there s q k found some at are =
     ap (λ (fs : List (List ℕ)). unwrap_or (slice_get fs k) []) are
-    ∙ ap (λ (o : Option (List ℕ)). unwrap_or o []) (mapped_at found_once s.objects k)
+    ∙ ap (λ (o : Option (List ℕ)). unwrap_or o []) (slice_get-map found_once s.objects k)
     ∙ once_at (slice_get s.objects k)
     ∙ ap once_on (object_found s q k (slice_get s.objects k) at refl)
     ∙ found_is s q some
@@ -144,7 +116,7 @@ abbrev names_in : Loaded → List (Option VersionPlace)
 names_in o = places_of o.object
 
 pub names_there : (objects : List Loaded) (names : List (List (Option VersionPlace))) (k : ℕ) (o : Loaded) → names ≡ map (λ (x : Loaded). places_of x.object) objects → slice_get objects k ≡ Some o → slice_get names k ≡ Some (places_of o.object)
-names_there objects names k o are here = ap (λ (ns : List (List (Option VersionPlace))). slice_get ns k) are ∙ mapped_at names_in objects k ∙ ap (option_map names_in) here
+names_there objects names k o are here = ap (λ (ns : List (List (Option VersionPlace))). slice_get ns k) are ∙ slice_get-map names_in objects k ∙ ap (option_map names_in) here
 
 -- ---- scopes that are kept
 

@@ -1,13 +1,14 @@
 -- Lists don't tell of the states of objects.
 use Rattle.std.proofs.Common.{◌≡◌, ℕ, zero, suc, Bool, true, false, cond, List, [], ◌∷◌, ◌++◌, length, map, refl, subst, sym, ap, ◌∙◌}
 use Rattle.std.specs.Prelude.{◌==◌, ◌||◌, not, filter, flat_map, option_map, slice_get, Option, Some, None}
+use Rattle.std.proofs.lemmas.List.{length-map}
 use Rattle.std.proofs.lemmas.List.Elements.{filter_agree}
 use Rattle.std.proofs.lemmas.Option.{IfSome_then, slice_get-map}
 use Rattle.ld_base.specs.declared.linking.Loaded.{Loaded}
-use Rattle.ld_base.specs.declared.linking.State.{State}
 use Rattle.ld_base.specs.declared.object.Object.{Object}
 use Rattle.scope_rule.specs.Breadth.{breadth, extend, has, order_to}
 use Rattle.scope_rule.specs.Choose.{first_with}
+use Rattle.scope_rule.specs.Lemmas.Orders.{breadth_grows}
 use Rattle.scope_rule.specs.Loading.{found_of, is_dying, is_dying_at, object_of, with_serial}
 use Rattle.scope_rule.specs.Scope.{opened_with, scope, whole_scope}
 use Rattle.scope_rule.specs.Seen.{Seen}
@@ -39,14 +40,7 @@ order_same : (f g : ℕ → List ℕ) (first : List ℕ) → ((x : ℕ) → f x 
 order_same f g first same zero = refl
 order_same f g first same (suc n) = ap (extend first) (flat_same f g same (order_to f first n) ∙ ap (flat_map g) (order_same f g first same n))
 
-many_mapped : (change : Loaded → Loaded) (objects : List Loaded) → length (map change objects) ≡ length objects
-many_mapped change [] = refl
-many_mapped change (o ∷ rest) = ap suc (many_mapped change rest)
-
 -- ---- a change of states alone
-
-abbrev with_state : Loaded → State → Loaded
-with_state o state = record o { state = state }
 
 module _ (change : Loaded → Loaded) (alone : (o : Loaded) → ChangesStateAlone o (change o)) where
   abbrev changed : Option Loaded → Option Loaded
@@ -65,7 +59,7 @@ module _ (change : Loaded → Loaded) (alone : (o : Loaded) → ChangesStateAlon
       either true = refl
       either false = refl
 
-  module _ (s : Seen) (grows : (t : Seen) (x : ℕ) → breadth t x ≡ order_to (found_of t) (extend [] (x ∷ [])) (length t.objects)) where
+  module _ (s : Seen) where
     abbrev Then : Seen
     Then = record s { objects = map change s.objects }
 
@@ -94,7 +88,7 @@ module _ (change : Loaded → Loaded) (alone : (o : Loaded) → ChangesStateAlon
     same_breadth : (root : ℕ) → breadth Then root ≡ breadth s root
     same_breadth root =
         let first : List ℕ = extend [] (root ∷ []) in
-        grows Then root ∙ order_same (found_of Then) (found_of s) first same_found (length (map change s.objects)) ∙ ap (order_to (found_of s) first) (many_mapped change s.objects) ∙ sym (grows s root)
+        breadth_grows Then root ∙ order_same (found_of Then) (found_of s) first same_found (length (map change s.objects)) ∙ ap (order_to (found_of s) first) (length-map s.objects change) ∙ sym (breadth_grows s root)
 
     abbrev brings : List ℕ → ℕ → List ℕ
     brings libraries q = cond (has libraries q) libraries []

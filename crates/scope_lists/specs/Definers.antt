@@ -45,16 +45,9 @@ abbrev pub IsNextDefiner : List Loaded → List Searched → ℕ → ℕ → Opt
 IsNextDefiner objects list hash from None = (place : ℕ) → from ≤ place → DefinesAt objects list hash place → ⊥
 IsNextDefiner objects list hash from (Some next) = DefinesFirst objects list hash from next
 
--- ---- what is kept of that: for the code of this crate alone
-
 -- by their hashes, and those of one hash by their places
 abbrev pub rank : Definer → ℕ
 rank d = d.hash * 2 ^ 32 + d.place
-
--- none of them ranks from there on; or this is the first that does
-abbrev pub IsFirstFrom : ℕ → List Definer → Option Definer → Type 0
-IsFirstFrom low definers None = (d : Definer) → Contains definers d → rank d < low
-IsFirstFrom low definers (Some first) = Contains definers first × (low ≤ rank first) × ((d : Definer) → Contains definers d → low ≤ rank d → rank first ≤ rank d)
 
 -- they are of all objects of a list in which the linker isn't, in their order
 pub record AreDefiners (objects : List Loaded) (list : List Searched) (definers : List Definer) : Type 0 where
@@ -63,14 +56,17 @@ pub record AreDefiners (objects : List Loaded) (list : List Searched) (definers 
   pub each : (d : Definer) → Contains definers d ↔ DefinesAt objects list d.hash d.place
   pub sorted : IsNonDecreasingBy rank definers
 
+-- ---- for the code of this crate alone
+
+-- none of them ranks from there on; or this is the first that does
+abbrev pub IsFirstFrom : ℕ → List Definer → Option Definer → Type 0
+IsFirstFrom low definers None = (d : Definer) → Contains definers d → rank d < low
+IsFirstFrom low definers (Some first) = Contains definers first × (low ≤ rank first) × ((d : Definer) → Contains definers d → low ≤ rank d → rank first ≤ rank d)
+
 -- they are of the first so many objects of a list
 abbrev pub AreDefinersBelow : ℕ → List Loaded → List Searched → List Definer → Type 0
 AreDefinersBelow count objects list definers = (d : Definer) → Contains definers d ↔ ((d.place < count) × DefinesAt objects list d.hash d.place)
 
--- of the first so many symbols of an object one is a definition under a hash
-abbrev pub DefinesBelow : ℕ → Object → ℕ → Type 0
-DefinesBelow count o hash = (index : ℕ) × (index < count) × DefinesAs o hash index
-
--- an object more, at a place of the list, of which so many symbols were gone over
-abbrev pub DefinesMore : ℕ → Object → ℕ → List Definer → List Definer → Type 0
-DefinesMore count o place old new = (d : Definer) → Contains new d ↔ (Contains old d ⊎ ((d.place ≡ place) × DefinesBelow count o d.hash))
+-- an object more, at a place of the list, which has definitions under these hashes
+abbrev pub DefinesMore : (ℕ → Type 0) → ℕ → List Definer → List Definer → Type 0
+DefinesMore under place old new = (d : Definer) → Contains new d ↔ (Contains old d ⊎ ((d.place ≡ place) × under d.hash))

@@ -11,7 +11,7 @@ ghost use Rattle.scope_lists.specs.Links.{AreLinks};
 use crate::links::Links;
 use indexmap::IndexSet;
 use ld_base::Serial;
-use scope_rule::{View, breadth_grows, extend, extends_at_the_end};
+use scope_rule::{View, extend};
 use std::alloc::{AllocError, Global};
 
 /// Puts the next level at the end: what the entries from `start` on found.
@@ -25,7 +25,6 @@ fn extend_by_level(
     requires start { start ≤ length order.old.keys }
     ensures { OnOk result (order.new.keys ≡ extend order.old.keys (flat_map (found_of (seen view.now)) (drop start order.old.keys))) }
 {
-    extends_at_the_end();
     let end = order.len();
     for i in start..end {
         let serial = order.as_slice()[i];
@@ -59,7 +58,6 @@ fn extend_by_levels(
     requires { AreLinks (seen view.now) links.now }
     ensures { OnOk result (order.new.keys ≡ order_to (found_of (seen view.now)) order.old.keys most) }
 {
-    extends_at_the_end();
     let mut start = 0;
     for _ in 0..most {
         let end = order.len();
@@ -86,7 +84,6 @@ pub(crate) fn breadth(
     requires { AreLinks (seen view.now) links.now }
     ensures { IfOk result (λ order. order.keys ≡ breadth (seen view.now) root) }
 {
-    breadth_grows();
     let mut order = IndexSet::new(alloc);
     extend(&mut order, &[root])?;
     let most = view.objects.len() + view.added.len();

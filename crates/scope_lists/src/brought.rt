@@ -8,7 +8,7 @@ use crate::links::Links;
 use crate::owners::{Owners, stand_apart};
 use indexmap::IndexSet;
 use ld_base::{Serial, Serials};
-use scope_rule::{View, breadth_grows};
+use scope_rule::View;
 use std::alloc::{AllocError, Global};
 
 /// What the roots of openings lead to, found once: it goes to the scope of each object of that. Openings that
@@ -81,7 +81,6 @@ impl Brought {
         requires apart { apart ≡ true → list_all (leads_elsewhere owners.now.serials.keys) (seen view.now).objects ≡ true }
         ensures { OnOk result (BringsMore (seen view.now) owners.now.serials.keys root self.old self.new) }
     {
-        breadth_grows();
         if apart && !owners.has(root) {
             return Ok(());
         }

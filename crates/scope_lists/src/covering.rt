@@ -8,7 +8,7 @@ use crate::breadth_first::has_each;
 use crate::links::Links;
 use indexmap::IndexSet;
 use ld_base::Serial;
-use scope_rule::{OpenRec, View, breadth_grows, extend};
+use scope_rule::{OpenRec, View, extend};
 use std::alloc::{AllocError, Global};
 
 /// The objects of the global list, where it has all that any names found and the roots of all openings, as
@@ -53,7 +53,6 @@ impl Covering {
         requires { AreLinks (seen view.now) links.now }
         ensures { IfOk result (IsCovering (seen view.now)) }
     {
-        breadth_grows();
         let mut serials = IndexSet::new(alloc);
         extend(&mut serials, view.global)?;
         if has_whatever(&serials, links, view) {

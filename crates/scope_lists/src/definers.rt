@@ -4,7 +4,7 @@ ghost use Rattle.std.specs.Prelude.{◌≡◌, ◌+◌, ◌<◌, ◌≤◌, ◌=
 ghost use Rattle.std.specs.List.{list_any};
 ghost use Rattle.std.specs.Option.{option_copied};
 ghost use Rattle.scope_rule.specs.Seen.{seen};
-ghost use Rattle.scope_lists.specs.Definers.{AreDefinersBelow, DefinesMore};
+ghost use Rattle.scope_lists.specs.Definers.{AreDefinersBelow, Defines, DefinesMore};
 ghost use Rattle.scope_lists.specs.Searched.{at_place};
 
 use crate::name_order::is_offered_at;
@@ -79,7 +79,7 @@ fn has_linker(list: &[Searched]) -> bool
 
 /// Puts an object, which stands at a place of the list, at the end for each of its definitions.
 fn append_object(object: &Object, place: u32, definers: &mut Vec<Definer>) -> Result<(), AllocError>
-    ensures { OnOk result (DefinesMore (length object.now.symbols) object.now place definers.old.items definers.new.items) }
+    ensures { OnOk result (DefinesMore (Defines object.now) place definers.old.items definers.new.items) }
 {
     for index in 0..object.symbols.len() {
         if is_offered_at(object, index) {
@@ -144,7 +144,8 @@ impl Definers {
     ghost use Rattle.scope_lists.specs.Definers.{AreDefiners, IsFirstFrom, IsNextDefiner, rank};
     ghost use Rattle.scope_lists.specs.declared.searched.Searched.{Searched as Entry};
 
-    /// Those of a list of objects of a namespace; none where the list is too long, or the linker is in it.
+    /// Those of a list of objects of a namespace; none where the list is too long, or the linker is in it. A search
+    /// goes without them then, as it may with any list.
     pub(crate) fn of(
         alloc: Global,
         view: &View,

@@ -6,13 +6,9 @@ ghost use Rattle.scope_rule.specs.Seen.{Seen};
 ghost use Rattle.scope_lists.specs.Lists.{AreListsOf, ChangesStateAlone};
 ghost use Rattle.scope_lists.specs.declared.lists.SearchLists.{SearchLists};
 
-use scope_rule::breadth_grows;
-
 /// Lists don't tell of the states of objects, but for which are closing: an object that becomes ready
 /// leaves them as they are.
 pub fn lists_stay()
     ensures { (s : Seen) (lists : SearchLists) (change : Loaded → Loaded) → ((o : Loaded) → ChangesStateAlone o (change o))
         → AreListsOf s lists → AreListsOf (record s { objects = map change s.objects }) lists }
-{
-    breadth_grows();
-}
+{}

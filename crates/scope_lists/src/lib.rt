@@ -10,8 +10,10 @@
 //!
 //! `version_places` knows where the names of an object's versions stand, by their index. Of objects in whose hash
 //! tables walks are long (a file may put all its names into one bucket) the definitions are put in the order of
-//! their names and versions ([`NameOrder`]), if there are so many references that it pays. Then it is noted, too, which
-//! objects of the global list have definitions under a hash ([`Definers`]): a search passes the others by.
+//! their names and versions ([`NameOrder`]), if there are so many searches that it pays: those of the objects whose
+//! scopes are made at once, or so many that were made one by one. Where the scopes of objects with many references together
+//! are made at once over a long global list, it is noted which objects of that list have definitions under a hash
+//! ([`Definers`]): a search passes the others by.
 #![tactic(auto)]
 
 mod breadth_first;

@@ -7,7 +7,7 @@ ghost use Rattle.scope_lists.specs.Links.{found_once};
 
 use indexmap::IndexSet;
 use ld_base::{Loaded, Serial, Serials};
-use scope_rule::{Places, View, extend, extends_at_the_end};
+use scope_rule::{Places, View, extend, extend_list};
 use std::alloc::{AllocError, Global};
 
 /// Where the objects of a namespace stand, and what the names of each found, each once: a name that
@@ -25,9 +25,9 @@ pub(crate) struct Links {
 fn each_once(alloc: Global, serials: &[Serial]) -> Result<Serials, AllocError>
     ensures { IfOk result (λ once. once ≡ extend [] serials.now) }
 {
-    let mut once = IndexSet::new(alloc);
-    extend(&mut once, serials)?;
-    Serials::from_slice(alloc, once.as_slice())
+    let mut once = Serials::new(alloc);
+    extend_list(alloc, &mut once, serials)?;
+    Ok(once)
 }
 
 /// Puts what the names of these objects found at the end.
@@ -58,7 +58,6 @@ fn found_by_each(alloc: Global, view: &View) -> Result<Vec<Serials>, AllocError>
 fn found_by_any(alloc: Global, found: &[Serials]) -> Result<Serials, AllocError>
     ensures { IfOk result (λ all. all ≡ extend [] (flat_map (λ serials. serials) found.now)) }
 {
-    extends_at_the_end();
     let mut all = IndexSet::new(alloc);
     for serials in found {
         extend(&mut all, serials.as_slice())?;

@@ -160,15 +160,16 @@ impl SearchLists {
         ensures lists { AreListsOf (seen view.now) self.new }
         ensures scope { OnOk result (IsListed self.new owner) }
     {
-        self.note_search(alloc, view)?;
+        self.count_search(alloc, view)?;
         match self.links.places.get(owner) {
             Some(place) => self.add_scope_at(alloc, view, place),
             None => Ok(()),
         }
     }
 
-    /// Counts one search more. Whenever they have doubled, the orders are made that are worth it for so many.
-    fn note_search(&mut self, alloc: Global, view: &View) -> Result<(), AllocError>
+    /// Counts one search more. Whenever they have doubled, the orders are made that are worth it for so many: want
+    /// of memory may come of it.
+    fn count_search(&mut self, alloc: Global, view: &View) -> Result<(), AllocError>
         requires { AreListsOf (seen view.now) self.old }
         ensures { AreListsOf (seen view.now) self.new }
     {
@@ -219,8 +220,8 @@ impl SearchLists {
         names_at(self.names.as_slice(), place)
     }
 
-    /// The definitions of the object at a place in load order by their names, if they were put in order, of any
-    /// namespace whose lists these are.
+    /// The definitions of the object at a place in load order by their names, of any namespace whose lists these
+    /// are. None says that they weren't put in order; whether they are is of speed alone.
     pub fn order_at(&self, place: usize) -> Option<&NameOrder>
         ensures { (s : Seen) (o : loaded) → AreListsOf s self.now → slice_get s.objects place ≡ Some o → IfSome result (λ order. IsNameOrder o.object order.now) }
     {

@@ -1,7 +1,7 @@
 pub mod Lists
 pub mod Ordered
-pub mod Orders
 pub mod Placed
+pub mod Queues
 pub mod Records
 pub mod Walks
 pub mod Ways

@@ -10,6 +10,7 @@ use Rattle.std.proofs.lemmas.List.FromFn.{map-range_with_len_more, take-map-rang
 use Rattle.std.proofs.lemmas.Option.{get_or_from_slice_get, slice_get_within}
 use Rattle.scope_rule.specs.Breadth.{has}
 use Rattle.scope_rule.specs.Loads.{Begins, IsIn}
+pub use Rattle.std.proofs.lemmas.List.Folds.{find-append as find_either}
 
 -- ---- what stands where
 

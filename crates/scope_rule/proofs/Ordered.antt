@@ -17,9 +17,9 @@ use Rattle.scope_rule.specs.Load.{Load, Walk, asks, preload_of, with_arrival, ne
 use Rattle.scope_rule.specs.Loading.{with_serial, found_of}
 use Rattle.scope_rule.specs.Loads.{Begins, Closed, new_of}
 use Rattle.scope_rule.specs.Seen.{Seen, with_added}
-use Rattle.scope_rule.proofs.Lists.{all_at, found_in, range_push, range_has, range_front}
-use Rattle.scope_rule.proofs.Orders.{extend-append, extended_length, find_either, alone, breadth_grows, reach}
-use Rattle.scope_rule.proofs.Orders.{IsQueue, queue_order, new_extend, new_flat, new_order}
+use Rattle.scope_rule.specs.Lemmas.Orders.{extend_append, extended_length, alone, breadth_grows}
+use Rattle.scope_rule.proofs.Lists.{all_at, find_either, found_in, range_push, range_has, range_front}
+use Rattle.scope_rule.proofs.Queues.{reach, IsQueue, queue_order, new_extend, new_flat, new_order}
 use Rattle.scope_rule.proofs.Records.{length-shares, length-records, records_numbered, records_below, record_at, count, joined_shares, count_asked, flat_range}
 use Rattle.scope_rule.proofs.Walks.{asks_longer, walk_stays}
 use Rattle.scope_rule.proofs.Ways.{IsSerial, linker, old, new, serial_found}
@@ -30,7 +30,7 @@ abbrev so_far : ℕ → List ℕ → List ℕ
 so_far next serials = extend [] (new_of next serials)
 
 so_far_more : (next : ℕ) (xs ys : List ℕ) → so_far next (xs ++ ys) ≡ extend (so_far next xs) (new_of next ys)
-so_far_more next xs ys = ap (extend []) (filter-append (nat_le next) xs ys) ∙ extend-append [] (new_of next xs) (new_of next ys)
+so_far_more next xs ys = ap (extend []) (filter-append (nat_le next) xs ys) ∙ extend_append [] (new_of next xs) (new_of next ys)
 
 -- how many names the first k objects ask for, with the load's own
 abbrev asked : Load → List Arrival → ℕ → ℕ

@@ -1,6 +1,7 @@
 pub mod Breadth
 pub mod Choose
 pub mod Finding
+pub mod Lemmas
 pub mod Linker
 pub mod Loading
 pub mod Needed

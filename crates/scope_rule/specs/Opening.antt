@@ -1,10 +1,10 @@
 -- What an opening makes of a namespace (dlopen(3)).
-use Rattle.std.specs.Prelude.{◌≡◌, ℕ, ◌+◌, Bool, ◌==◌, ◌||◌, if◌then◌else◌, List, [], ◌∷◌, ◌++◌, map}
+use Rattle.std.specs.Prelude.{ℕ, ◌+◌, Bool, ◌==◌, if◌then◌else◌, List, [], ◌∷◌, ◌++◌, map}
 use Rattle.std.specs.List.{list_any}
 use Rattle.ld_base.specs.declared.linking.Loaded.{Loaded}
 use Rattle.scope_rule.specs.declared.namespace.Namespace.{Namespace}
 use Rattle.scope_rule.specs.declared.namespace.OpenRec.{OpenRec}
-use Rattle.scope_rule.specs.Breadth.{breadth, extend, has}
+use Rattle.scope_rule.specs.Breadth.{breadth, extend}
 use Rattle.scope_rule.specs.Seen.{Seen, seen_in, with_added}
 
 -- the global list: under RTLD_GLOBAL what the root leads to is put at its end, where it lacks it
@@ -28,7 +28,3 @@ opened ns added root is_global = record ns {
   global = global_after (with_added (seen_in ns) added) root is_global;
   opens = opens_after root ns.opens;
 }
-
--- these are the serials of a list, and the linker's own: for the code of this crate alone
-abbrev pub AreKnown : List ℕ → List ℕ → Type 0
-AreKnown list known = (serial : ℕ) → has known serial ≡ (serial == 0 || has list serial)

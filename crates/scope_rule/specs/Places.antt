@@ -24,6 +24,6 @@ place_in serials serial = position (λ s. s == serial) serials
 abbrev pub ArePlaces : List ℕ → Places → Type 0
 ArePlaces serials places = (serial : ℕ) → place_of places serial ≡ place_in serials serial
 
--- where so many serials were noted, further ones are noted behind them
+-- where so many serials were noted, further ones are noted behind them: for the code of this crate alone
 abbrev pub NotesMore : ℕ → List ℕ → Places → Places → Type 0
 NotesMore first more old new = (xs : List ℕ) → length xs ≡ first → ArePlaces xs old → ArePlaces (xs ++ more) new

@@ -4,10 +4,9 @@
 ghost use Rattle.std.specs.Prelude.{◌≡◌, ◌≤◌, [], ◌∷◌, length, drop, flat_map, OnOk, IfOk};
 ghost use Rattle.scope_rule.specs.Breadth.{breadth, extend, order_to};
 ghost use Rattle.scope_rule.specs.Loading.{found_of};
-ghost use Rattle.scope_rule.specs.Places.{ArePlaces, serials_of};
 ghost use Rattle.scope_rule.specs.Seen.{seen};
 
-use crate::places::Places;
+use crate::indexed_view::IndexedView;
 use crate::view::View;
 use indexmap::IndexSet;
 use ld_base::{Serial, Serials};
@@ -39,18 +38,16 @@ pub fn extend(order: &mut IndexSet<Serial>, serials: &[Serial]) -> Result<(), Al
 
 /// Puts what the names of an object found at the end.
 fn extend_by_found(
-    view: &View,
-    places: &Places,
+    indexed: &IndexedView,
     order: &mut IndexSet<Serial>,
     serial: Serial,
 ) -> Result<(), AllocError>
-    requires { ArePlaces (serials_of (seen view.now)) places.now }
-    ensures { OnOk result (order.new.keys ≡ extend order.old.keys (found_of (seen view.now) serial)) }
+    ensures { OnOk result (order.new.keys ≡ extend order.old.keys (found_of indexed.now serial)) }
 {
     if serial == Serial::LINKER {
         return Ok(());
     }
-    match places.object(view, serial) {
+    match indexed.object(serial) {
         Some(object) => extend(order, object.found.as_slice()),
         None => Ok(()),
     }
@@ -58,32 +55,28 @@ fn extend_by_found(
 
 /// Puts the next level at the end: what the entries from `start` on found.
 fn extend_by_level(
-    view: &View,
-    places: &Places,
+    indexed: &IndexedView,
     order: &mut IndexSet<Serial>,
     start: usize,
 ) -> Result<(), AllocError>
-    requires places { ArePlaces (serials_of (seen view.now)) places.now }
-    requires start { start ≤ length order.old.keys }
-    ensures { OnOk result (order.new.keys ≡ extend order.old.keys (flat_map (found_of (seen view.now)) (drop start order.old.keys))) }
+    requires { start ≤ length order.old.keys }
+    ensures { OnOk result (order.new.keys ≡ extend order.old.keys (flat_map (found_of indexed.now) (drop start order.old.keys))) }
 {
     let end = order.len();
     for i in start..end {
         let serial = order.as_slice()[i];
-        extend_by_found(view, places, order, serial)?;
+        extend_by_found(indexed, order, serial)?;
     }
     Ok(())
 }
 
 /// Puts so many levels at the end, as far as there are any that put something there.
 fn extend_by_levels(
-    view: &View,
-    places: &Places,
+    indexed: &IndexedView,
     order: &mut IndexSet<Serial>,
     most: usize,
 ) -> Result<(), AllocError>
-    requires { ArePlaces (serials_of (seen view.now)) places.now }
-    ensures { OnOk result (order.new.keys ≡ order_to (found_of (seen view.now)) order.old.keys most) }
+    ensures { OnOk result (order.new.keys ≡ order_to (found_of indexed.now) order.old.keys most) }
 {
     let mut start = 0;
     for _ in 0..most {
@@ -91,7 +84,7 @@ fn extend_by_levels(
         if start == end {
             return Ok(());
         }
-        extend_by_level(view, places, order, start)?;
+        extend_by_level(indexed, order, start)?;
         start = end;
     }
     Ok(())
@@ -106,24 +99,27 @@ fn extend_by_levels(
 pub fn breadth(alloc: Global, view: &View, root: Serial) -> Result<Serials, AllocError>
     ensures { IfOk result (λ order. order ≡ breadth (seen view.now) root) }
 {
-    let places = Places::of(alloc, view)?;
-    let order = breadth_among(alloc, view, &places, root)?;
+    let indexed = IndexedView::of(alloc, view)?;
+    let order = breadth_in(alloc, &indexed, root)?;
     Serials::from_slice(alloc, order.as_slice())
 }
 
-/// The same, among objects whose places are known: they are gathered once for many roots.
-pub(crate) fn breadth_among(
+/// The same as [`breadth`], of a view that is indexed once for many roots.
+///
+/// # Errors
+///
+/// Want of memory.
+pub fn breadth_in(
     alloc: Global,
-    view: &View,
-    places: &Places,
+    indexed: &IndexedView,
     root: Serial,
 ) -> Result<IndexSet<Serial>, AllocError>
-    requires { ArePlaces (serials_of (seen view.now)) places.now }
-    ensures { IfOk result (λ order. order.keys ≡ breadth (seen view.now) root) }
+    ensures { IfOk result (λ order. order.keys ≡ breadth indexed.now root) }
 {
     let mut order = IndexSet::new(alloc);
     extend_by_one(&mut order, root)?;
+    let view = indexed.view();
     let most = view.objects.len() + view.added.len();
-    extend_by_levels(view, places, &mut order, most)?;
+    extend_by_levels(indexed, &mut order, most)?;
     Ok(order)
 }

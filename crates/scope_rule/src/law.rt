@@ -1,17 +1,16 @@
 //! What holds of every load.
 
-ghost use Rattle.std.specs.Prelude.{◌≡◌, ◌≤◌, ◌++◌, ◌∷◌, ℕ, Bool, List, [], Some, None, Err, length, map};
+ghost use Rattle.std.specs.Prelude.{◌≡◌, ◌≤◌, ◌++◌, ℕ, Bool, List, [], Some, None, Err, length, map};
 ghost use Rattle.std.specs.List.{range_with_len, slice_get, AllByRecursion};
 ghost use Rattle.ld_base.specs.declared.fault.DlFault.TheVariants.{MissingLibrary};
 ghost use Rattle.ld_base.specs.declared.fault.Shown.{Shown};
 ghost use Rattle.ld_base.specs.declared.linking.Loaded.{Loaded};
 ghost use Rattle.scope_rule.specs.declared.arrival.Arrival.{Arrival};
-ghost use Rattle.scope_rule.specs.Breadth.{breadth, extend, order_to};
+ghost use Rattle.scope_rule.specs.Breadth.{breadth};
 ghost use Rattle.scope_rule.specs.Finding.{absent};
 ghost use Rattle.scope_rule.specs.Load.{Load, Walk, Stop, Brings, Stops, IsRoot, finds, present, take_found, paths_of, records_of, refuses, stops, use_of};
 ghost use Rattle.scope_rule.specs.Load.{waits};
-ghost use Rattle.scope_rule.specs.Loading.{found_of};
-ghost use Rattle.scope_rule.specs.Loads.{Begins, Closed, IsFound, IsMissing, IsRead, ReadsNothing, Stands, WaitsForOne, alone, named_there, new_of};
+ghost use Rattle.scope_rule.specs.Loads.{Closed, IsFound, IsMissing, IsRead, ReadsNothing, Stands, WaitsForOne, alone, named_there, new_of};
 ghost use Rattle.scope_rule.specs.Seen.{Seen, with_added};
 
 /// A load comes to one walk, or stops for one reason.
@@ -100,19 +99,4 @@ pub fn waits_for_one()
 /// Where nothing is there before, as at the load of a program, there is nothing to wait for.
 pub fn never_waits()
     ensures { (load : Load) (shown : Shown) → load.there ≡ [] → Stops load (waits shown) → ⊥ }
-{}
-
-/// What a root leads to grows a level at a time: each puts at the end of the root what the order so
-/// far leads to and lacks, as many times as there are objects.
-#[tactic(auto, using(crate::proofs::Orders::breadth_grows))]
-pub fn breadth_grows()
-    ensures { (s : Seen) (root : ℕ) → breadth s root ≡ order_to (found_of s) (extend [] (root ∷ [])) (length s.objects) }
-{}
-
-/// An order is extended by two lists as by the one and then the other, and stands at the front of what
-/// it is extended to.
-#[tactic(auto, using(crate::proofs::Orders::extend_begins))]
-pub fn extends_at_the_end()
-    ensures one_by_one { (order xs ys : List ℕ) → extend order (xs ++ ys) ≡ extend (extend order xs) ys }
-    ensures begins { (order xs : List ℕ) → Begins order (extend order xs) }
 {}

@@ -5,9 +5,13 @@
 //! the rules of scope and version name: the object's own definition where no other may take its
 //! place, else the first object of the object's scope that has a definition, else nothing. It is
 //! the plain form of the rule: it builds the scope and scans symbol tables. [`search_breadth`] and
-//! [`search_global`] are dlsym's searches. Each works over a [`View`], which shows a namespace as it
-//! stands or as an opening will leave it, so that all choices of an opening are known before
-//! anything changes. [`opened_lists`] and `Namespace::opened` say what an opening makes of it.
+//! [`search_global`] are dlsym's searches in the same plain form. (The linker itself searches by hash tables and
+//! by lists that it keeps, in `sym_lookup` and `scope_lists`, with these results.) Each works over a [`View`],
+//! which shows a namespace as it stands or as an opening will leave it, so that all choices of an opening are
+//! known before anything changes. [`opened_lists`] and `Namespace::opened` say what an opening makes of it.
+//!
+//! In an [`IndexedView`] an object is found by its serial in one step, for whoever asks for many; [`Places`] is
+//! its index alone.
 //!
 //! What a load brings is a definition here (`specs/Load.antt`), for any namespace, for a program, for
 //! dlopen and for RTLD_NOLOAD, over what reading each path gives. The functions from [`one_outcome`]
@@ -17,6 +21,7 @@
 mod arrival;
 mod breadth_first;
 mod choosing;
+mod indexed_view;
 mod law;
 mod linker_object;
 mod namespace;
@@ -28,16 +33,16 @@ mod searching;
 mod view;
 
 pub use arrival::Arrival;
-pub use breadth_first::{breadth, extend};
+pub use breadth_first::{breadth, breadth_in, extend};
 pub use choosing::{choice_of, choose, choose_in, choose_reloc, is_own, want_of};
+pub use indexed_view::IndexedView;
 pub use law::{
-    breadth_grows, extends_at_the_end, finds_loaded, found_stands, loads_breadth_first,
-    missing_library, names_find, never_waits, one_outcome, reads_candidates, reads_nothing,
-    root_is_new, serials_follow, waits_for_one,
+    finds_loaded, found_stands, loads_breadth_first, missing_library, names_find, never_waits,
+    one_outcome, reads_candidates, reads_nothing, root_is_new, serials_follow, waits_for_one,
 };
 pub use linker_object::linker_symbol;
 pub use namespace::{Namespace, OpenRec, Opens};
-pub use opening::{OpenedLists, opened_lists};
+pub use opening::{OpenedLists, extend_list, opened_lists};
 pub use places::{Places, object_at};
 pub use relocation::{has_no_symbol, is_copy};
 pub use scoping::scope;

@@ -3,7 +3,7 @@
 ghost use Rattle.std.specs.Prelude.{◌≡◌, ◌==◌, ◌++◌, ◌∷◌, [], IfOk, OnOk, map};
 ghost use Rattle.std.specs.List.{list_any};
 ghost use Rattle.scope_rule.specs.Breadth.{breadth, extend};
-ghost use Rattle.scope_rule.specs.Opening.{AreKnown, global_after, opens_after, raised};
+ghost use Rattle.scope_rule.specs.Opening.{global_after, opens_after, raised};
 ghost use Rattle.scope_rule.specs.Seen.{seen};
 
 use crate::breadth_first::{breadth, extend};
@@ -13,7 +13,7 @@ use indexmap::IndexSet;
 use ld_base::{Added, Serial, Serials};
 use std::alloc::{AllocError, Global};
 
-/// For so few serials the list isn't made known: each is looked for in it sooner.
+/// So few serials are looked for in a list one by one: that is quicker than a set of what the list has.
 const FEW: usize = 8;
 
 /// The global objects and the openings of a namespace, as an opening leaves them.
@@ -60,34 +60,8 @@ pub fn opened_lists(
     })
 }
 
-/// The serials of a list, each once, and the linker's own, which is put at the end of none.
-fn known_of(alloc: Global, list: &[Serial]) -> Result<IndexSet<Serial>, AllocError>
-    ensures { IfOk result (λ known. AreKnown list.now known.keys) }
-{
-    let mut known = IndexSet::new(alloc);
-    extend(&mut known, list)?;
-    known.insert(Serial::LINKER)?;
-    Ok(known)
-}
-
-/// Puts a serial at the end of a list that lacks it, where its serials are known.
-fn push_unknown(
-    known: &mut IndexSet<Serial>,
-    list: &mut Serials,
-    serial: Serial,
-) -> Result<(), AllocError>
-    requires { AreKnown list.old known.old.keys }
-    ensures known { OnOk result (AreKnown list.new known.new.keys) }
-    ensures list { OnOk result (list.new ≡ extend list.old (serial ∷ [])) }
-{
-    if known.insert(serial)? {
-        list.push(serial)?;
-    }
-    Ok(())
-}
-
 /// Puts a serial at the end if the list lacks it; the linker's own is left out.
-fn extend_by_one(list: &mut Serials, serial: Serial) -> Result<(), AllocError>
+fn push_lacking(list: &mut Serials, serial: Serial) -> Result<(), AllocError>
     ensures { OnOk result (list.new ≡ extend list.old (serial ∷ [])) }
 {
     if serial != Serial::LINKER && !list.as_slice().contains(&serial) {
@@ -101,23 +75,28 @@ fn extend_by_each(list: &mut Serials, serials: &[Serial]) -> Result<(), AllocErr
     ensures { OnOk result (list.new ≡ extend list.old serials.now) }
 {
     for serial in serials {
-        extend_by_one(list, *serial)?;
+        push_lacking(list, *serial)?;
     }
     Ok(())
 }
 
 /// Puts those serials at the end that a list lacks; the linker's own is left out.
-fn extend_list(alloc: Global, list: &mut Serials, serials: &[Serial]) -> Result<(), AllocError>
+///
+/// # Errors
+///
+/// Want of memory.
+#[tactic(auto, using(crate::specs::Lemmas::Orders::extended_length))]
+pub fn extend_list(alloc: Global, list: &mut Serials, serials: &[Serial]) -> Result<(), AllocError>
     ensures { OnOk result (list.new ≡ extend list.old serials.now) }
 {
     if serials.len() <= FEW {
         return extend_by_each(list, serials);
     }
-    let mut known = known_of(alloc, list.as_slice())?;
-    for serial in serials {
-        push_unknown(&mut known, list, *serial)?;
-    }
-    Ok(())
+    let mut known = IndexSet::new(alloc);
+    extend(&mut known, list.as_slice())?;
+    let count = known.len();
+    extend(&mut known, serials)?;
+    list.extend_from_slice(&known.as_slice()[count..])
 }
 
 /// Puts what a root leads to at the end of a list that lacks it.

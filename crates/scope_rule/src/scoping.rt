@@ -3,19 +3,18 @@
 ghost use Rattle.std.specs.Prelude.{◌≡◌, ◌++◌, ◌||◌, [], not, if◌then◌else◌, filter, flat_map, OnOk, IfOk};
 ghost use Rattle.scope_rule.specs.Breadth.{breadth, has};
 ghost use Rattle.scope_rule.specs.Loading.{is_dying, is_dying_at};
-ghost use Rattle.scope_rule.specs.Places.{ArePlaces, serials_of};
 ghost use Rattle.scope_rule.specs.Seen.{seen};
 ghost use Rattle.scope_rule.specs.Scope.{opened_with, whole_scope, scope};
 
-use crate::breadth_first::breadth_among;
-use crate::places::Places;
+use crate::breadth_first::breadth_in;
+use crate::indexed_view::IndexedView;
 use crate::view::{View, is_dying};
 use indexmap::IndexSet;
 use ld_base::{Loaded, Serial, Serials};
 use std::alloc::{AllocError, Global};
 
 /// Puts libraries at the end, if an object is one of them.
-fn append_own(
+fn append_libraries(
     libraries: &IndexSet<Serial>,
     serial: Serial,
     scope: &mut Serials,
@@ -31,32 +30,28 @@ fn append_own(
 /// Puts at the end what an open brings to the scope of an object.
 fn append_opened(
     alloc: Global,
-    view: &View,
-    places: &Places,
+    indexed: &IndexedView,
     owner: &Loaded,
     root: Serial,
     scope: &mut Serials,
 ) -> Result<(), AllocError>
-    requires { ArePlaces (serials_of (seen view.now)) places.now }
-    ensures { OnOk result (scope.new ≡ scope.old ++ opened_with (seen view.now) owner.now root) }
+    ensures { OnOk result (scope.new ≡ scope.old ++ opened_with indexed.now owner.now root) }
 {
-    let libraries = breadth_among(alloc, view, places, root)?;
-    append_own(&libraries, owner.serial, scope)
+    let libraries = breadth_in(alloc, indexed, root)?;
+    append_libraries(&libraries, owner.serial, scope)
 }
 
 /// Puts at the end what the opens bring to the scope of an object.
 fn append_opens(
     alloc: Global,
-    view: &View,
-    places: &Places,
+    indexed: &IndexedView,
     owner: &Loaded,
     scope: &mut Serials,
 ) -> Result<(), AllocError>
-    requires { ArePlaces (serials_of (seen view.now)) places.now }
-    ensures { OnOk result (scope.new ≡ scope.old ++ flat_map (λ r. opened_with (seen view.now) owner.now r.root) (seen view.now).opens) }
+    ensures { OnOk result (scope.new ≡ scope.old ++ flat_map (λ r. opened_with indexed.now owner.now r.root) indexed.now.opens) }
 {
-    for open in view.opens {
-        append_opened(alloc, view, places, owner, open.root, scope)?;
+    for open in indexed.view().opens {
+        append_opened(alloc, indexed, owner, open.root, scope)?;
     }
     Ok(())
 }
@@ -64,75 +59,63 @@ fn append_opens(
 /// Puts what a root leads to at the end.
 fn append_breadth(
     alloc: Global,
-    view: &View,
-    places: &Places,
+    indexed: &IndexedView,
     root: Serial,
     scope: &mut Serials,
 ) -> Result<(), AllocError>
-    requires { ArePlaces (serials_of (seen view.now)) places.now }
-    ensures { OnOk result (scope.new ≡ scope.old ++ breadth (seen view.now) root) }
+    ensures { OnOk result (scope.new ≡ scope.old ++ breadth indexed.now root) }
 {
-    let libraries = breadth_among(alloc, view, places, root)?;
+    let libraries = breadth_in(alloc, indexed, root)?;
     scope.extend_from_slice(libraries.as_slice())
 }
 
 /// Puts every object that a reference of the owner may be to, those closing too, into an empty list.
 fn fill_scope(
     alloc: Global,
-    view: &View,
-    places: &Places,
+    indexed: &IndexedView,
     owner: &Loaded,
     scope: &mut Serials,
 ) -> Result<(), AllocError>
-    requires places { ArePlaces (serials_of (seen view.now)) places.now }
-    requires empty { scope.old ≡ [] }
-    ensures { OnOk result (scope.new ≡ whole_scope (seen view.now) owner.now) }
+    requires { scope.old ≡ [] }
+    ensures { OnOk result (scope.new ≡ whole_scope indexed.now owner.now) }
 {
     if owner.object.flags.symbolic {
         scope.push(owner.serial)?;
     }
     if !owner.deep {
-        scope.extend_from_slice(view.global)?;
+        scope.extend_from_slice(indexed.view().global)?;
     }
-    append_opens(alloc, view, places, owner, scope)?;
-    append_breadth(alloc, view, places, owner.serial, scope)?;
+    append_opens(alloc, indexed, owner, scope)?;
+    append_breadth(alloc, indexed, owner.serial, scope)?;
     if owner.deep {
-        scope.extend_from_slice(view.global)?;
+        scope.extend_from_slice(indexed.view().global)?;
     }
     scope.push(Serial::LINKER)
 }
 
 /// Every object that a reference of the owner may be to, those closing too.
-fn whole_scope(
-    alloc: Global,
-    view: &View,
-    places: &Places,
-    owner: &Loaded,
-) -> Result<Serials, AllocError>
-    requires { ArePlaces (serials_of (seen view.now)) places.now }
-    ensures { IfOk result (λ s. s ≡ whole_scope (seen view.now) owner.now) }
+fn whole_scope(alloc: Global, indexed: &IndexedView, owner: &Loaded) -> Result<Serials, AllocError>
+    ensures { IfOk result (λ s. s ≡ whole_scope indexed.now owner.now) }
 {
     let mut scope = Serials::new(alloc);
-    fill_scope(alloc, view, places, owner, &mut scope)?;
+    fill_scope(alloc, indexed, owner, &mut scope)?;
     Ok(scope)
 }
 
 /// Of these objects those that the owner sees: one that isn't closing sees none that is.
 fn visible(
     alloc: Global,
-    view: &View,
-    places: &Places,
+    indexed: &IndexedView,
     owner: &Loaded,
     serials: &[Serial],
 ) -> Result<Serials, AllocError>
-    requires { ArePlaces (serials_of (seen view.now)) places.now }
-    ensures { IfOk result (λ s. s ≡ filter (λ s. is_dying owner.now || not (is_dying_at (seen view.now) s)) serials.now) }
+    ensures { IfOk result (λ s. s ≡ filter (λ s. is_dying owner.now || not (is_dying_at indexed.now s)) serials.now) }
 {
     let sees_dying = is_dying(owner);
     let seen: Vec<Serial> = serials
         .iter()
         .copied()
-        .filter(|serial| sees_dying || !places.is_dying(view, *serial))
+        .filter(|serial| sees_dying || !indexed.is_dying(*serial))
         .collect(alloc)?;
     Ok(Serials::from(seen))
 }
@@ -146,7 +129,7 @@ fn visible(
 pub fn scope(alloc: Global, view: &View, owner: &Loaded) -> Result<Serials, AllocError>
     ensures { IfOk result (λ s. s ≡ scope (seen view.now) owner.now) }
 {
-    let places = Places::of(alloc, view)?;
-    let whole = whole_scope(alloc, view, &places, owner)?;
-    visible(alloc, view, &places, owner, whole.as_slice())
+    let indexed = IndexedView::of(alloc, view)?;
+    let whole = whole_scope(alloc, &indexed, owner)?;
+    visible(alloc, &indexed, owner, whole.as_slice())
 }

@@ -32,7 +32,7 @@ pub fn search_breadth(
 
 /// What dlsym finds on RTLD_DEFAULT: the first definition among the global objects, then the
 /// linker's own (dlsym(3)).
-#[tactic(auto, using(crate::proofs::Orders::first_of_two), unfolding(crate::specs::Searching::in_global))]
+#[tactic(auto, using(crate::specs::Lemmas::Orders::first_of_two), unfolding(crate::specs::Searching::in_global))]
 pub fn search_global(view: &View, name: &[u8], want: &Want) -> Option<(Serial, u32)>
     ensures { result ≡ in_global (seen view.now) name.now want.now }
 {

@@ -52,7 +52,7 @@ impl<'a> View<'a> {
     ghost use Rattle.scope_rule.specs.Seen.{seen};
 
     /// The object with a serial, if it is there.
-    #[tactic(auto, using(crate::proofs::Orders::find_either))]
+    #[tactic(auto, using(crate::proofs::Lists::find_either))]
     pub fn object(&self, serial: Serial) -> Option<&'a Loaded>
         ensures { option_copied result ≡ object_of (seen self.now) serial }
     {

@@ -1,9 +1,7 @@
 -- Searches through lists that are made once.
-use Rattle.std.proofs.Common.{Bor, ◌≡◌, ◌≢◌, ◌<◌, ◌∙◌, ap, sym, subst, ℕ, Bool, true, false, cond, inl, inr, List, [], ◌∷◌, ◌++◌, length, get_or, refl, arith, eq-eqb, get_or-set_other}
+use Rattle.std.proofs.Common.{Bor, ◌≡◌, ◌<◌, ◌∙◌, ap, sym, subst, ℕ, Bool, true, false, cond, inl, inr, List, [], ◌∷◌, ◌++◌, length, get_or, refl, arith}
 use Rattle.std.specs.List.{AllByRecursion, slice_get}
-use Rattle.std.proofs.Math.ListN.{set}
-use Rattle.std.proofs.lemmas.Bool.{cases_Bool, cases_lt, eqb-true}
-use Rattle.std.proofs.lemmas.Grind.{get_or-set_at}
+use Rattle.std.proofs.lemmas.Bool.{cases_lt, eqb-true}
 use Rattle.std.proofs.lemmas.List.{get_or_past}
 use Rattle.std.proofs.lemmas.Option.{slice_get-get_or}
 use Rattle.std.specs.Prelude.{◌==◌, ◌&&◌, if◌then◌else◌, nat_le, not, filter, IfSome, Option, Some, None}
@@ -161,23 +159,6 @@ none_kept s o copy kept n long none k choice is =
       | inl lt ↦ absurd (let no : None ≡ Some choice = sym (none k lt) ∙ is in cc no)
       | inr past ↦ absurd (let no : None ≡ Some choice = sym (get_or_past kept k None (omega arith)) ∙ is in cc no)
     ]
-
--- one choice more
-pub one_kept : (s : Seen) (o : Loaded) (copy : Bool) (kept : List (Option Choice)) (index : ℕ) (choice : Choice) → index < length kept → AreKept s o copy kept → choice ≡ choice_of_symbol s o index copy → AreKept s o copy (set kept index (Some choice))
-one_kept s o copy kept index choice within are right k c is =
-    elim (cases_Bool (k == index)) [
-      | inl same ↦
-          let e : k ≡ index = eqb-true k index same in
-          let there : Some choice ≡ Some c = sym (get_or-set_at kept index k (Some choice) None e within) ∙ is in
-          let value : choice ≡ c = cc there in
-          sym value ∙ right ∙ ap (λ (n : ℕ). choice_of_symbol s o n copy) (sym e)
-      | inr other ↦
-          let ne : k ≢ index = ne_from k index other in
-          are k c (sym (get_or-set_other kept index k (Some choice) None ne) ∙ is)
-    ]
-  where
-    ne_from : (a b : ℕ) → (a == b) ≡ false → a ≢ b
-    ne_from a b e same = absurd (let no : true ≡ false = sym (eq-eqb a b same) ∙ e in cc no)
 
 -- ---- alike symbols
 

@@ -6,7 +6,7 @@
 //! where the names of each object's versions stand, too, and each object is searched by its hash table
 //! (`sym_find`), or in the order of its names where the lists have that. Where the lists know which objects of the
 //! global list have definitions under a hash, the others aren't asked. The hashes of a reference's name are
-//! computed once. None of them takes memory, but for making [`References`].
+//! computed once. None of these look-ups takes memory, but for making [`References`].
 //!
 //! [`lookup_breadth`] and [`lookup_global`] give what `scope_rule::search_breadth` and `search_global` give: a name
 //! is looked up where dlsym does. Each object is asked by its hash table, and known by its serial in one step: the

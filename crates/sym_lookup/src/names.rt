@@ -2,51 +2,39 @@
 
 ghost use Rattle.std.specs.Prelude.{◌≡◌, ◌∷◌, [], IfOk};
 ghost use Rattle.scope_rule.specs.Choose.{first_with, pick_at};
-ghost use Rattle.scope_rule.specs.Places.{ArePlaces, serials_of};
 ghost use Rattle.scope_rule.specs.Searching.{in_breadth, in_global};
 ghost use Rattle.scope_rule.specs.Seen.{Seen, seen};
 ghost use Rattle.sym_lookup.specs.Looking.{HaveTables};
 
 use crate::sym_find::{Asked, Find, Sought};
 use ld_base::{Serial, Want};
-use scope_rule::{Places, View, breadth, linker_symbol};
+use scope_rule::{IndexedView, View, breadth_in, linker_symbol};
 use std::alloc::{AllocError, Global};
 
 /// What an object of the namespace, or the linker's own, has for a name.
 #[tactic(auto, unfolding(scope_rule::specs::Choose::pick_at))]
-fn found_at(view: &View, places: &Places, sought: &Sought, serial: Serial) -> Option<u32>
-    requires tables { HaveTables (seen view.now) }
-    requires places { ArePlaces (serials_of (seen view.now)) places.now }
-    ensures { result ≡ pick_at (seen view.now) sought.now.name sought.now.want serial }
+fn found_at(indexed: &IndexedView, sought: &Sought, serial: Serial) -> Option<u32>
+    requires tables { HaveTables indexed.now }
+    ensures { result ≡ pick_at indexed.now sought.now.name sought.now.want serial }
 {
     if serial == Serial::LINKER {
         return linker_symbol(sought.name());
     }
-    let loaded = places.object(view, serial)?;
+    let loaded = indexed.object(serial)?;
     loaded.table.find_sought(&loaded.object, None, sought)
 }
 
 /// The first of these objects that has a definition, with its symbol.
-///
-/// # Errors
-///
-/// Want of memory.
-fn first_found(
-    alloc: Global,
-    view: &View,
-    sought: &Sought,
-    serials: &[Serial],
-) -> Result<Option<(Serial, u32)>, AllocError>
-    requires tables { HaveTables (seen view.now) }
-    ensures { IfOk result (λ found. found ≡ first_with (pick_at (seen view.now) sought.now.name sought.now.want) serials.now) }
+fn first_found(indexed: &IndexedView, sought: &Sought, serials: &[Serial]) -> Option<(Serial, u32)>
+    requires tables { HaveTables indexed.now }
+    ensures { result ≡ first_with (pick_at indexed.now sought.now.name sought.now.want) serials.now }
 {
-    let places = Places::of(alloc, view)?;
     for serial in serials {
-        if let Some(index) = found_at(view, &places, sought, *serial) {
-            return Ok(Some((*serial, index)));
+        if let Some(index) = found_at(indexed, sought, *serial) {
+            return Some((*serial, index));
         }
     }
-    Ok(None)
+    None
 }
 
 /// What dlsym finds on a handle, as `scope_rule::search_breadth` gives it: each object is asked by its own
@@ -67,8 +55,9 @@ pub fn lookup_breadth(
     ensures { IfOk result (λ found. found ≡ in_breadth (seen view.now) root name.now want.now) }
 {
     let sought = Sought::new(name, Asked::of(want));
-    let order = breadth(alloc, view, root)?;
-    first_found(alloc, view, &sought, order.as_slice())
+    let indexed = IndexedView::of(alloc, view)?;
+    let order = breadth_in(alloc, &indexed, root)?;
+    Ok(first_found(&indexed, &sought, order.as_slice()))
 }
 
 /// What dlsym finds on RTLD_DEFAULT, as `scope_rule::search_global` gives it: each object is asked by its own
@@ -87,7 +76,8 @@ pub fn lookup_global(
     ensures { IfOk result (λ found. found ≡ in_global (seen view.now) name.now want.now) }
 {
     let sought = Sought::new(name, Asked::of(want));
-    match first_found(alloc, view, &sought, view.global)? {
+    let indexed = IndexedView::of(alloc, view)?;
+    match first_found(&indexed, &sought, view.global) {
         Some(found) => Ok(Some(found)),
         None => Ok(found_in_linker(&sought)),
     }

@@ -62,7 +62,7 @@ impl KnownObjects {
         Ok(loaded)
     }
 
-    /// What is known of this shape with the same segments: all else that an object says stands in them.
+    /// What is known of this shape with the same segments: all its lists stand in them.
     fn find(&self, shape: &Shape, object: &Object) -> Option<&Known> {
         let segments = object.segments.as_slice();
         self.by_shape.get(shape)?.iter().find(|known| are_same(

@@ -11,7 +11,7 @@ use Rattle.history_state.specs.State.{Statics}
 use Rattle.history_state.specs.Step.{has_module}
 use Rattle.history_state.specs.Storage.{HaveModules, IsPlaceOf, IsStaticOffset, module_of_place, statics_with, statics_with_one, with_place}
 use Rattle.tls_blocks.specs.Numbers.{IsLeastFree, ModuleTable, with_module}
-use Rattle.tls_blocks.specs.Places.{IsOffset, end_with, tp_with}
+use Rattle.tls_blocks.specs.Places.{IsOffset, tp_with}
 use Rattle.link_open_images.specs.OpeningSteps.Steps.{statics_after, statics_of}
 
 -- ---- a place is the one that a new module has
@@ -54,40 +54,6 @@ one_place startup modules st serial seg tls placed place some is least late stat
 pub placed_is : (o : Loaded) (modules new : List Module) (place : TlsPlace) → o.«module» ≡ Some place
     → new ≡ with_module (record { number = place.number; serial = o.serial; offset = place.offset }) modules → new ≡ with_place o modules
 placed_is o modules new place is new_is = new_is ∙ ap (λ (p : Option TlsPlace). option_map_or (λ (q : TlsPlace). with_module (module_of_place o.serial q) modules) p modules) (sym is)
-
-pub statics_are : (startup : Bool) (o : Loaded) (seg : TlsSeg) (place : TlsPlace) (old new : Statics) → o.object.tls ≡ Some seg → o.«module» ≡ Some place → (IsTrue (not startup) → place.offset ≡ None)
-    → new.size ≡ end_with place.offset seg old.size → new.tp ≡ (if not startup then old.tp else tp_with o.serial seg old.tp) → new ≡ statics_after startup (o ∷ []) old
-statics_are true o seg place old new tls is late size tp = rw (tls, is) (pair new size tp)
-  where
-    pair : (n : Statics) → n.size ≡ end_with place.offset seg old.size → n.tp ≡ tp_with o.serial seg old.tp → n ≡ record { size = end_with place.offset seg old.size; tp = tp_with o.serial seg old.tp }
-    pair n a b =
-        ap (λ (size : ℕ). record { size = size; tp = n.tp }) a ∙ ap (λ (tp : ℕ). record { size = end_with place.offset seg old.size; tp = tp }) b
-statics_are false o seg place old new tls is late size tp = pair new (size ∙ ap (λ (x : Option ℕ). end_with x seg old.size) (late refl)) tp
-  where
-    pair : (n : Statics) → n.size ≡ old.size → n.tp ≡ old.tp → n ≡ old
-    pair n a b = ap (λ (size : ℕ). record { size = size; tp = n.tp }) a ∙ ap (λ (tp : ℕ). record { size = old.size; tp = tp }) b
-
-pub one_more : (o : Loaded) (place : TlsPlace) (old new : ℕ) → o.«module» ≡ Some place → new ≡ old + 1 → new ≡ old + length (filter has_module (o ∷ []))
-one_more o place old new is more = rw (is) more
-
--- ---- without one
-
-pub no_place : (startup : Bool) (modules : List Module) (st : Statics) (serial : ℕ) (tls : Option TlsSeg) (placed : Option TlsPlace) → tls ≡ None → IsPlaceOf startup modules st serial tls placed → placed ≡ None
-no_place startup modules st serial tls placed none is = by placed (subst (λ (t : Option TlsSeg). IsPlaceOf startup modules st serial t placed) none is)
-  where
-    by : (p : Option TlsPlace) → IsPlaceOf startup modules st serial None p → p ≡ None
-    by None at = refl
-    by (Some p) at = absurd at
-
-pub place_none : (o : Loaded) (modules : List Module) → o.«module» ≡ None → modules ≡ with_place o modules
-place_none o modules none = rw (none) refl
-
-pub statics_none : (startup : Bool) (o : Loaded) (st : Statics) → o.object.tls ≡ None → st ≡ statics_after startup (o ∷ []) st
-statics_none true o st none = rw (none) refl
-statics_none false o st none = refl
-
-pub none_more : (o : Loaded) (n : ℕ) → o.«module» ≡ None → n ≡ n + length (filter has_module (o ∷ []))
-none_more o n none = rw (none) (omega arith)
 
 -- ---- one object after another
 

@@ -11,10 +11,9 @@ ghost use Rattle.scope_rule.specs.Relocation.{choice_at};
 
 use crate::object_bindings::copying::{Made, copied_from, copied_size};
 use crate::object_bindings::definitions::{size_of, value_of};
-use crate::sight::Sight;
 use ld_base::{Bytes, Choice, Loaded, Object, Reloc, Serial};
 use relocator::{Binding, Bindings};
-use scope_rule::is_copy;
+use scope_rule::{IndexedView, is_copy};
 use std::alloc::{AllocError, Global};
 
 /// The bindings of an object: those of DT_RELA, and then those of its slots. `choices` is what its
@@ -26,22 +25,22 @@ use std::alloc::{AllocError, Global};
 /// Want of memory.
 pub(crate) fn bindings_of(
     alloc: Global,
-    sight: &Sight,
+    indexed: &IndexedView,
     made: &Made,
     now: bool,
     owner: &Loaded,
     choices: &[Choice],
 ) -> Result<Bindings, AllocError>
-    requires choices { choices.now ≡ choices_of sight.now now owner.now }
-    requires made { AreMade sight.now now made.now.places.now made.now.objects.now made.now.images.now }
+    requires choices { choices.now ≡ choices_of indexed.now now owner.now }
+    requires made { AreMade indexed.now now made.now.places.now made.now.objects.now made.now.images.now }
     ensures { IfOk result (λ bindings. bindings
-        ≡ bindings_in (copies_from sight.now now made.now.places.now made.now.objects.now) sight.now now owner.now) }
+        ≡ bindings_in (copies_from indexed.now now made.now.places.now made.now.objects.now) indexed.now now owner.now) }
 {
     let mut bindings = Bindings::new(alloc);
-    push_relas(alloc, sight, made, owner, choices, &mut bindings)?;
+    push_relas(alloc, indexed, made, owner, choices, &mut bindings)?;
     if binds_now(now, &owner.object) {
         let slots = &choices[owner.object.relocs.len()..];
-        push_bound(alloc, sight, owner, slots, &mut bindings)?;
+        push_bound(alloc, indexed, owner, slots, &mut bindings)?;
     } else {
         push_lazy(alloc, owner.object.plt_relocs.len(), &mut bindings)?;
     }
@@ -58,7 +57,7 @@ fn binds_now(now: bool, object: &Object) -> bool
 /// Puts the bindings of DT_RELA at the end.
 fn push_relas(
     alloc: Global,
-    sight: &Sight,
+    indexed: &IndexedView,
     made: &Made,
     owner: &Loaded,
     choices: &[Choice],
@@ -66,13 +65,13 @@ fn push_relas(
 ) -> Result<(), AllocError>
     requires count { length owner.now.object.relocs ≤ length choices.now }
     requires choices { (k : ℕ) (r : Relocation) → slice_get owner.now.object.relocs k ≡ Some r
-        → slice_get choices.now k ≡ Some (choice_at sight.now owner.now r) }
+        → slice_get choices.now k ≡ Some (choice_at indexed.now owner.now r) }
     requires read { CanRead made.now.objects.now made.now.images.now }
-    ensures { OnOk result ((now : Bool) → AreMade sight.now now made.now.places.now made.now.objects.now made.now.images.now → bindings.new ≡ bindings.old
-        ++ map (rela_binding (copies_from sight.now now made.now.places.now made.now.objects.now) sight.now owner.now) owner.now.object.relocs) }
+    ensures { OnOk result ((now : Bool) → AreMade indexed.now now made.now.places.now made.now.objects.now made.now.images.now → bindings.new ≡ bindings.old
+        ++ map (rela_binding (copies_from indexed.now now made.now.places.now made.now.objects.now) indexed.now owner.now) owner.now.object.relocs) }
 {
     for (index, reloc) in owner.object.relocs.as_slice().iter().enumerate() {
-        bindings.push(rela_binding(alloc, sight, made, &owner.object, reloc, &choices[index])?)?;
+        bindings.push(rela_binding(alloc, indexed, made, &owner.object, reloc, &choices[index])?)?;
     }
     Ok(())
 }
@@ -80,17 +79,17 @@ fn push_relas(
 /// Puts the bindings of slots at the end that are bound to these choices.
 fn push_bound(
     alloc: Global,
-    sight: &Sight,
+    indexed: &IndexedView,
     owner: &Loaded,
     choices: &[Choice],
     bindings: &mut Bindings,
 ) -> Result<(), AllocError>
-    requires choices { choices.now ≡ map (choice_at sight.now owner.now) owner.now.object.plt_relocs }
+    requires choices { choices.now ≡ map (choice_at indexed.now owner.now) owner.now.object.plt_relocs }
     ensures { OnOk result (bindings.new ≡ bindings.old
-        ++ map (λ r. binding_in sight.now r (choice_at sight.now owner.now r)) owner.now.object.plt_relocs) }
+        ++ map (λ r. binding_in indexed.now r (choice_at indexed.now owner.now r)) owner.now.object.plt_relocs) }
 {
     for (index, slot) in owner.object.plt_relocs.as_slice().iter().enumerate() {
-        bindings.push(binding_of(sight, slot, &choices[index], Bytes::new(alloc)))?;
+        bindings.push(binding_of(indexed, slot, &choices[index], Bytes::new(alloc)))?;
     }
     Ok(())
 }
@@ -115,56 +114,56 @@ fn push_lazy(alloc: Global, count: usize, bindings: &mut Bindings) -> Result<(),
 /// The binding of a relocation of DT_RELA.
 fn rela_binding(
     alloc: Global,
-    sight: &Sight,
+    indexed: &IndexedView,
     made: &Made,
     owner: &Object,
     reloc: &Reloc,
     choice: &Choice,
 ) -> Result<Binding, AllocError>
     requires { CanRead made.now.objects.now made.now.images.now }
-    ensures { IfOk result (λ binding. (now : Bool) → AreMade sight.now now made.now.places.now made.now.objects.now made.now.images.now
-        → binding ≡ copied_by (copies_from sight.now now made.now.places.now made.now.objects.now) owner.now reloc.now
-        (binding_in sight.now reloc.now choice.now)) }
+    ensures { IfOk result (λ binding. (now : Bool) → AreMade indexed.now now made.now.places.now made.now.objects.now made.now.images.now
+        → binding ≡ copied_by (copies_from indexed.now now made.now.places.now made.now.objects.now) owner.now reloc.now
+        (binding_in indexed.now reloc.now choice.now)) }
 {
-    let copied = copied_for(alloc, sight, made, owner, reloc, choice)?;
-    Ok(binding_of(sight, reloc, choice, copied))
+    let copied = copied_for(alloc, indexed, made, owner, reloc, choice)?;
+    Ok(binding_of(indexed, reloc, choice, copied))
 }
 
 /// What a relocation copies: nothing unless it is a COPY.
 fn copied_for(
     alloc: Global,
-    sight: &Sight,
+    indexed: &IndexedView,
     made: &Made,
     owner: &Object,
     reloc: &Reloc,
     choice: &Choice,
 ) -> Result<Bytes, AllocError>
     requires { CanRead made.now.objects.now made.now.images.now }
-    ensures { IfOk result (λ bytes. (now : Bool) → AreMade sight.now now made.now.places.now made.now.objects.now made.now.images.now
-        → bytes ≡ copied_bytes (copies_from sight.now now made.now.places.now made.now.objects.now) sight.now owner.now reloc.now choice.now) }
+    ensures { IfOk result (λ bytes. (now : Bool) → AreMade indexed.now now made.now.places.now made.now.objects.now made.now.images.now
+        → bytes ≡ copied_bytes (copies_from indexed.now now made.now.places.now made.now.objects.now) indexed.now owner.now reloc.now choice.now) }
 {
     if !is_copy(reloc) {
         return Ok(Bytes::new(alloc));
     }
-    let count = copied_size(owner, reloc, size_of(sight, choice));
+    let count = copied_size(owner, reloc, size_of(indexed, choice));
     copied_from(
         alloc,
         made,
         chosen(choice),
-        value_of(sight, reloc, choice),
+        value_of(indexed, reloc, choice),
         count,
     )
 }
 
 /// The binding of a relocation that is bound to a choice, and copies these bytes.
-fn binding_of(sight: &Sight, reloc: &Reloc, choice: &Choice, copied: Bytes) -> Binding
-    ensures { result ≡ record (binding_in sight.now reloc.now choice.now) { copied = copied } }
+fn binding_of(indexed: &IndexedView, reloc: &Reloc, choice: &Choice, copied: Bytes) -> Binding
+    ensures { result ≡ record (binding_in indexed.now reloc.now choice.now) { copied = copied } }
 {
     Binding {
         bound: true,
         choice: *choice,
-        value: value_of(sight, reloc, choice),
-        size: size_of(sight, choice),
+        value: value_of(indexed, reloc, choice),
+        size: size_of(indexed, choice),
         object: chosen(choice),
         copied,
     }

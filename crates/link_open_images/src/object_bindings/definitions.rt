@@ -7,8 +7,8 @@ ghost use Rattle.history_state.specs.Addresses.{definition_address, linker_funct
 ghost use Rattle.history_state.specs.Bound.{is_storage};
 ghost use Rattle.link_open_images.specs.ObjectBindings.Bindings.{address_in, size_in, storage_in, symbol_in, value_in};
 
-use crate::sight::Sight;
 use ld_base::{Choice, Loaded, Reloc, Serial, Symbol};
+use scope_rule::IndexedView;
 
 /// The linker's own page, at whose start its functions stand.
 const LINKER_PAGE: u64 = 0x80f000;
@@ -23,32 +23,32 @@ const R_RISCV_TLS_DTPREL64: u32 = 9;
 const R_RISCV_TLS_TPREL64: u32 = 11;
 
 /// What a relocation takes of its choice: the address, or the symbol's place in its module's block.
-pub(crate) fn value_of(sight: &Sight, reloc: &Reloc, choice: &Choice) -> u64
-    ensures { result ≡ value_in sight.now reloc.now choice.now }
+pub(crate) fn value_of(indexed: &IndexedView, reloc: &Reloc, choice: &Choice) -> u64
+    ensures { result ≡ value_in indexed.now reloc.now choice.now }
 {
     if is_storage(reloc) {
-        place_in_block(sight, choice)
+        place_in_block(indexed, choice)
     } else {
-        address_of(sight, choice)
+        address_of(indexed, choice)
     }
 }
 
 /// The symbol's place in its module's block. The linker's own functions are in none: it is their address.
-fn place_in_block(sight: &Sight, choice: &Choice) -> u64
-    ensures { result ≡ storage_in sight.now choice.now }
+fn place_in_block(indexed: &IndexedView, choice: &Choice) -> u64
+    ensures { result ≡ storage_in indexed.now choice.now }
 {
     match *choice {
         Choice::Def(serial, index) if serial.number() == 0 => linker_function(index),
-        Choice::Def(_, _) => symbol_of(sight, choice).map_or(0, |symbol| symbol.value),
+        Choice::Def(_, _) => symbol_of(indexed, choice).map_or(0, |symbol| symbol.value),
         Choice::WeakZero | Choice::Missing => 0,
     }
 }
 
 /// The size of the definition.
-pub(crate) fn size_of(sight: &Sight, choice: &Choice) -> u64
-    ensures { result ≡ size_in sight.now choice.now }
+pub(crate) fn size_of(indexed: &IndexedView, choice: &Choice) -> u64
+    ensures { result ≡ size_in indexed.now choice.now }
 {
-    symbol_of(sight, choice).map_or(0, |symbol| symbol.size)
+    symbol_of(indexed, choice).map_or(0, |symbol| symbol.size)
 }
 
 /// Whether a relocation is one of thread-local storage.
@@ -61,11 +61,11 @@ fn is_storage(reloc: &Reloc) -> bool
 }
 
 /// The symbol that was chosen, where an object has it.
-fn symbol_of<'a>(sight: &Sight<'a>, choice: &Choice) -> Option<&'a Symbol>
-    ensures { option_copied result ≡ symbol_in sight.now choice.now }
+fn symbol_of<'a>(indexed: &IndexedView<'a>, choice: &Choice) -> Option<&'a Symbol>
+    ensures { option_copied result ≡ symbol_in indexed.now choice.now }
 {
     match *choice {
-        Choice::Def(serial, index) => match sight.object(serial) {
+        Choice::Def(serial, index) => match indexed.object(serial) {
             Some(object) => symbol_at(object, index),
             None => None,
         },
@@ -81,23 +81,23 @@ fn symbol_at(object: &Loaded, index: u32) -> Option<&Symbol>
 }
 
 /// The address of a choice: that of its definition, and 0 where it has none.
-fn address_of(sight: &Sight, choice: &Choice) -> u64
-    ensures { result ≡ address_in sight.now choice.now }
+fn address_of(indexed: &IndexedView, choice: &Choice) -> u64
+    ensures { result ≡ address_in indexed.now choice.now }
 {
     match *choice {
-        Choice::Def(serial, index) => address_at(sight, serial, index),
+        Choice::Def(serial, index) => address_at(indexed, serial, index),
         Choice::WeakZero | Choice::Missing => 0,
     }
 }
 
 /// The address of a definition.
-fn address_at(sight: &Sight, serial: Serial, index: u32) -> u64
-    ensures { result ≡ address_in sight.now (Def serial index) }
+fn address_at(indexed: &IndexedView, serial: Serial, index: u32) -> u64
+    ensures { result ≡ address_in indexed.now (Def serial index) }
 {
     if serial.number() == 0 {
         return linker_function(index);
     }
-    match sight.object(serial) {
+    match indexed.object(serial) {
         Some(object) => definition_in(object, index),
         None => 0,
     }

@@ -1,20 +1,19 @@
 -- Places of versions.
 use Rattle.std.proofs.Common.{◌≡◌, ℕ, ◌+◌, ◌<◌, ◌≤◌, ◌==◌, Bool, true, false, cond, inl, inr, List, [], ◌∷◌, ◌++◌, length, get_or, map, take, refl, sym, ap, ◌∙◌, arith}
 use Rattle.std.specs.Prelude.{◌&&◌, not, max, find, fold, position, option_map, slice_get, slice_index_or, Option, Some, None}
-use Rattle.std.specs.List.{position_or_len, range_with_len}
-use Rattle.std.specs.Option.{is_some, option_or}
+use Rattle.std.specs.List.{range_with_len}
+use Rattle.std.specs.Option.{option_or}
 use Rattle.std.proofs.lemmas.Bool.{cases_Bool, cases_lt, eqb-true}
 use Rattle.std.proofs.lemmas.Grind.{common_steps}
-use Rattle.std.proofs.lemmas.List.{length-append, take_more, get_or_past}
-use Rattle.std.proofs.lemmas.List.Folds.{find_at, position_or_len_push}
+use Rattle.std.proofs.lemmas.List.{take_more, get_or_past}
 use Rattle.std.proofs.lemmas.List.FromFn.{get_or-map-range_with_len, length-map-range_with_len}
 use Rattle.std.proofs.lemmas.List.Quantifiers.{position-Some}
-use Rattle.std.proofs.lemmas.List.Sums.{prefix_len-le-length}
 use Rattle.std.proofs.lemmas.Option.{slice_get-get_or}
 use Rattle.ld_base.specs.Version.{is_base, verdef_of, verneed_of, version_name}
 use Rattle.ld_base.specs.declared.object.Object.{Object}
 use Rattle.ld_base.specs.declared.object.Verdef.{Verdef}
 use Rattle.ld_base.specs.declared.object.Verneed.{Verneed}
+use Rattle.scope_rule.specs.Lemmas.Placed.{found_by, none_by, position_pushed}
 use Rattle.scope_lists.specs.VersionPlaces.Noted.{noted_at, places_in}
 use Rattle.scope_lists.specs.VersionPlaces.Places.{indexes_of, name_in, past, place_of, places_of}
 use Rattle.scope_lists.specs.declared.version_places.names.VersionPlace.{VersionPlace}
@@ -22,11 +21,6 @@ use Rattle.scope_lists.specs.declared.version_places.names.VersionPlace.TheVaria
 use Rattle.scope_lists.specs.declared.version_places.noting.Noted.{Noted}
 
 -- ---- one more at the end
-
-pushed : {X : Type 0} (p : X → Bool) (xs : List X) (x : X) → position p (xs ++ x ∷ []) ≡ option_or (position p xs) (cond (p x) (Some (length xs)) None)
-pushed p xs x =
-    let within : position_or_len p xs ≤ length xs = prefix_len-le-length (λ y. not (p y)) xs in
-    rw (position_or_len_push p xs x) (grind (arith, common_steps, length-append xs (x ∷ [])))
 
 joined : (to : ℕ → VersionPlace) (before : Option VersionPlace) (found : Option ℕ) (n : ℕ) (own : Bool)
     → option_or (option_or before (option_map to found)) (cond own (Some (to n)) None) ≡ option_or before (option_map to (option_or found (cond own (Some n) None)))
@@ -45,7 +39,7 @@ noted_more p to xs i x before old new within is so_far step =
     ∙ ap (λ o. option_or o (cond (p x) (Some (to i)) None)) so_far
     ∙ joined to before (position p (take i xs)) i (p x)
     ∙ ap (λ n. option_or before (option_map to (option_or (position p (take i xs)) (cond (p x) (Some n) None)))) (sym long)
-    ∙ ap (λ o. option_or before (option_map to o)) (sym (pushed p (take i xs) x) ∙ ap (position p) (sym more))
+    ∙ ap (λ o. option_or before (option_map to o)) (sym (position_pushed p (take i xs) x) ∙ ap (position p) (sym more))
 
 -- ---- the greatest index
 
@@ -89,14 +83,6 @@ place_there o index =
     first n base are = eqb-true n index (both (n == index) (not base) are)
 
 -- ---- the name of an index
-
--- the element at its first place is the first
-found_by : {X : Type 0} (p : X → Bool) (xs : List X) (k : ℕ) → position p xs ≡ Some k → slice_get xs k ≡ find p xs
-found_by p xs k e = sym (find_at p xs ∙ ap (slice_get xs) (grind (arith, common_steps)))
-
-none_by : {X : Type 0} (p : X → Bool) (xs : List X) → position p xs ≡ None → None ≡ find p xs
-none_by p [] e = refl
-none_by p (x ∷ xs) e = grind (arith, common_steps, none_by p xs)
 
 -- the first of two that there is, by their places
 by_first : {X : Type 0} (p : X → Bool) (xs : List X) (name : X → List ℕ) (k : ℕ) (other : Option (List ℕ)) → position p xs ≡ Some k → option_map name (slice_get xs k) ≡ option_or (option_map name (find p xs)) other
@@ -154,36 +140,3 @@ pub place_past : (noted : Noted) (n index : ℕ) → n ≤ index → None ≡ sl
 place_past noted n index past_all =
     let long : length (places_in noted n) ≡ n = length-map-range_with_len (noted_at noted) 0 n in
     sym (get_or_past (places_in noted n) index None (omega arith))
-
--- ---- one index more
-
-pub noted_before : (old : ℕ → Option VersionPlace) (index k : ℕ) (place : VersionPlace) → is_some (old index) ≡ true → old k ≡ option_or (old k) (cond (index == k) (Some place) None)
-noted_before old index k place has = by (index == k) refl
-  where
-    kept : (o : Option VersionPlace) → is_some o ≡ true → o ≡ option_or o (Some place)
-    kept (Some x) e = refl
-    kept None e = absurd (cc e)
-
-    plain : (o : Option VersionPlace) → o ≡ option_or o None
-    plain (Some x) = refl
-    plain None = refl
-
-    by : (same : Bool) → (index == k) ≡ same → old k ≡ option_or (old k) (cond same (Some place) None)
-    by true e = kept (old k) (ap (λ n. is_some (old n)) (sym (eqb-true index k e)) ∙ has)
-    by false e = plain (old k)
-
-pub noted_new : (old : ℕ → Option VersionPlace) (index k : ℕ) (place : VersionPlace) (new : Option VersionPlace) → is_some (old index) ≡ false → new ≡ cond (index == k) (Some place) (old k)
-    → new ≡ option_or (old k) (cond (index == k) (Some place) None)
-noted_new old index k place new none is = is ∙ by (index == k) refl
-  where
-    first : (o : Option VersionPlace) → is_some o ≡ false → Some place ≡ option_or o (Some place)
-    first None e = refl
-    first (Some x) e = absurd (cc e)
-
-    plain : (o : Option VersionPlace) → o ≡ option_or o None
-    plain (Some x) = refl
-    plain None = refl
-
-    by : (same : Bool) → (index == k) ≡ same → cond same (Some place) (old k) ≡ option_or (old k) (cond same (Some place) None)
-    by true e = first (old k) (ap (λ n. is_some (old n)) (sym (eqb-true index k e)) ∙ none)
-    by false e = plain (old k)

@@ -24,7 +24,7 @@ use Rattle.sym_lookup.specs.declared.sym_find.best.Best.{Best}
 use Rattle.sym_lookup.specs.declared.sym_find.best.Search.{Search}
 use Rattle.sym_lookup.specs.declared.sym_find.best.Sight.{Sight}
 use Rattle.sym_lookup.specs.declared.sym_find.best.Sight.TheVariants.{Nothing, One, Several}
-use Rattle.sym_lookup.proofs.SymFind.Kept.{first_same, knows_nothing, knows_same, only_same}
+use Rattle.sym_lookup.proofs.SymFind.Kept.{first_same, knows_same, only_same}
 
 -- ---- the table that counts
 
@@ -33,9 +33,6 @@ by_gnu t g name w b is knows = knows_same w (ReachedByGnu g name) (Reached t nam
 
 pub by_sysv : (t : HashTable) (s : SysvPart) (name : List ℕ) (w : Search) (b : Best) → t.gnu ≡ None → t.sysv ≡ Some s → Knows w (ReachedBySysv s name) b → Knows w (Reached t name) b
 by_sysv t s name w b none is knows = knows_same w (ReachedBySysv s name) (Reached t name) b (λ k r. rw (none, is) r) knows (λ k r. rw (none, is) at r)
-
-pub by_none : (t : HashTable) (name : List ℕ) (w : Search) → t.gnu ≡ None → t.sysv ≡ None → Knows w (Reached t name) nothing
-by_none t name w none empty = knows_nothing w (Reached t name) (λ k r. rw (none, empty) at r)
 
 -- ---- a table that leads to no symbol of the name
 

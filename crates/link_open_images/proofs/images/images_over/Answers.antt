@@ -1,4 +1,4 @@
-use Rattle.std.proofs.Common.{◌≡◌, suc, ◌-◌, ◌<◌, false, List, ◌∷◌, drop, take, length, get_or, Some, sym, ap, subst, ◌∙◌, arith}
+use Rattle.std.proofs.Common.{◌≡◌, suc, ◌-◌, ◌<◌, false, List, ◌∷◌, drop, take, length, get_or, Some, sym, ap, subst, ◌∙◌}
 use Rattle.std.specs.List.{Contains, slice_get}
 use Rattle.std.proofs.lemmas.Option.{slice_get-get_or}
 use Rattle.ld_base.specs.declared.linking.Loaded.{Loaded}
@@ -14,17 +14,17 @@ use Rattle.link_open_images.proofs.images.images_over.Goals as goal
 
 pub images_behind-requires-clause-first : goal.images_behind-requires-clause-first
 images_behind-requires-clause-first c =
-    let some : 0 < length c.args.objects.now = grind (arith, c.is_empty.ensures, c.if-is_empty.false) in
+    let some : 0 < length c.args.objects.now = c.requires.some in
     let at : slice_get c.args.objects.now 0 ≡ Some c.index-objects-0.result =
     slice_get-get_or c.args.objects.now 0 c.index-objects-0.result some ∙ ap (λ (o : Loaded). Some o) (sym c.index-objects-0.is) in
     subst (λ (rest : List Loaded). MayRelocate c.index-objects-0.result
-    (bindings_in (copies_from c.args.sight.now c.args.now c.args.places.now rest) c.args.sight.now c.args.now c.index-objects-0.result) c.args.places.now)
+    (bindings_in (copies_from c.args.indexed.now c.args.now c.args.places.now rest) c.args.indexed.now c.args.now c.index-objects-0.result) c.args.places.now)
     (sym (rest_is c.args.objects.now)) (c.requires.may.each 0 c.index-objects-0.result at)
 
 pub images_behind-requires-clause-rest : goal.images_behind-requires-clause-rest
 images_behind-requires-clause-rest c = λ k o at.
-    let ns : Seen = c.args.sight.now in
-    let some : 0 < length c.args.objects.now = grind (arith, c.is_empty.ensures, c.if-is_empty.false) in
+    let ns : Seen = c.args.indexed.now in
+    let some : 0 < length c.args.objects.now = c.requires.some in
     let rest : List Loaded = take (length c.args.objects.now - 1) (drop 1 c.args.objects.now) in
     let are : c.args.objects.now ≡ get_or c.args.objects.now 0 c.index-objects-0.result ∷ rest = split c.args.objects.now c.index-objects-0.result some in
     let libraries : (r : Reloc) → Contains o.object.relocs r → is_copy r ≡ false =
@@ -35,8 +35,8 @@ images_behind-requires-clause-rest c = λ k o at.
 
 pub returns : goal.returns
 returns c =
-    let ns : Seen = c.args.sight.now in
-    let some : 0 < length c.args.objects.now = grind (arith, c.is_empty.ensures, c.if-is_empty.false) in
+    let ns : Seen = c.args.indexed.now in
+    let some : 0 < length c.args.objects.now = c.requires.some in
     let rest : List Loaded = take (length c.args.objects.now - 1) (drop 1 c.args.objects.now) in
     let first : Loaded = c.index-objects-0.result in
     let are : c.args.objects.now ≡ first ∷ rest =

@@ -6,4 +6,4 @@ use Rattle.link_open_images.proofs.images.library_image.Goals as goal
 
 pub relocated-requires-clause-may : goal.relocated-requires-clause-may
 relocated-requires-clause-may c =
-    subst (λ (bs : List Binding). MayRelocate c.args.object.now bs c.args.places.now) (sym (no_sources c.args.sight.now c.args.now c.args.places.now c.args.object.now)) c.requires.may
+    subst (λ (bs : List Binding). MayRelocate c.args.object.now bs c.args.places.now) (sym (no_sources c.args.indexed.now c.args.now c.args.places.now c.args.object.now)) c.requires.may

@@ -14,10 +14,10 @@ library_image-requires-clause-may c =
 
 pub loop-index-preserved : goal.loop-index-preserved
 loop-index-preserved c =
-    let made : (o : Loaded) → slice_get c.args.objects.now c.loop-index.index ≡ Some o → IsMade c.args.sight.now c.args.now c.args.places.now o c.in_ok-library_image.field-0 = λ o at.
+    let made : (o : Loaded) → slice_get c.args.objects.now c.loop-index.index ≡ Some o → IsMade c.args.indexed.now c.args.now c.args.places.now o c.in_ok-library_image.field-0 = λ o at.
     let same : c.index-objects-index.result ≡ o =
     c.index-objects-index.is ∙ get_or_from_slice_get c.args.objects.now c.loop-index.index o c.index-objects-index.result at in
-    subst (λ (x : Loaded). IsMade c.args.sight.now c.args.now c.args.places.now x c.in_ok-library_image.field-0) same
+    subst (λ (x : Loaded). IsMade c.args.indexed.now c.args.now c.args.places.now x c.in_ok-library_image.field-0) same
     (record {
       accepted = (c.requires.may c.loop-index.index c.index-objects-index.result (at ∙ ap (λ (x : Loaded). Some x) (sym same))).accepted;
       relocated = c.in_ok-library_image.ensures;
@@ -27,7 +27,7 @@ loop-index-preserved c =
       each = λ k o image at there. ⊎_elim
           (λ (old : slice_get c.loop-index.images.items k ≡ Some image). c.loop-index.invariant.each k o image at old)
           (λ (new : (c.in_ok-library_image.field-0 ≡ image) × (k ≡ length c.loop-index.images.items)).
-          subst (λ (i : Image). IsMade c.args.sight.now c.args.now c.args.places.now o i) new.0
+          subst (λ (i : Image). IsMade c.args.indexed.now c.args.now c.args.places.now o i) new.0
           (made o (ap (λ (n : ℕ). slice_get c.args.objects.now n) (sym (new.1 ∙ c.loop-index.invariant.count)) ∙ at)))
           (pushed_at c.loop-index.images.items c.in_ok-library_image.field-0 k image (ap (λ (is : List Image). slice_get is k) (sym c.in_ok-push.ensures.items) ∙ there));
     }

@@ -9,5 +9,5 @@ use Rattle.link_open_images.proofs.images.library_images.Given as goal
 abbrev pub invariant-loop-index : goal.invariant-loop-index
 invariant-loop-index l = record {
   count : length l.images.items ≡ l.index;
-  each : (k : ℕ) (o : Loaded) (image : Image) → slice_get l.objects k ≡ Some o → slice_get l.images.items k ≡ Some image → IsMade l.sight l.now l.places o image;
+  each : (k : ℕ) (o : Loaded) (image : Image) → slice_get l.objects k ≡ Some o → slice_get l.images.items k ≡ Some image → IsMade l.indexed l.now l.places o image;
 }

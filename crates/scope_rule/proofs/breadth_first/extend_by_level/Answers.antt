@@ -1,13 +1,12 @@
 use Rattle.std.proofs.Common.{◌≡◌, ℕ, List, get_or, arith}
 use Rattle.scope_rule.specs.Loading.{found_of}
-use Rattle.scope_rule.specs.Seen.{seen}
 use Rattle.scope_rule.specs.Breadth.{extend}
-use Rattle.scope_rule.proofs.Orders.{entry_step, extended_front, extended_length}
+use Rattle.scope_rule.specs.Lemmas.Orders.{entry_step, extended_front, extended_length}
 use Rattle.scope_rule.proofs.breadth_first.extend_by_level.Goals as goal
 
 pub loop-i-preserved : goal.loop-i-preserved
 loop-i-preserved c =
-    let f = found_of (seen c.args.view.now) in
+    let f = found_of c.args.indexed.now in
     let order : List ℕ = c.loop-i.order.keys in
     let x : ℕ = c.index-as_slice-i.result in
     let e : c.extend_by_found.new.order.keys ≡ extend order (f x) = c.in_ok-extend_by_found.ensures in

@@ -1,14 +1,13 @@
 use Rattle.std.proofs.Common.{◌≡◌, ℕ, List, ◌∙◌, length, drop, arith}
 use Rattle.std.specs.List.{flat_map}
 use Rattle.scope_rule.specs.Loading.{found_of}
-use Rattle.scope_rule.specs.Seen.{seen}
 use Rattle.scope_rule.specs.Breadth.{extend}
-use Rattle.scope_rule.proofs.Orders.{all_levels, extended_length, grown_step, level_step, one_level_more}
+use Rattle.scope_rule.specs.Lemmas.Orders.{all_levels, extended_length, grown_step, level_step, one_level_more}
 use Rattle.scope_rule.proofs.breadth_first.extend_by_levels.Goals as goal
 
 pub loop-preserved : goal.loop-preserved
 loop-preserved c =
-    let f = found_of (seen c.args.view.now) in
+    let f = found_of c.args.indexed.now in
     let first : List ℕ = c.args.order.now.keys in
     let order : List ℕ = c.loop.order.keys in
     let added : List ℕ = flat_map f (drop c.loop.start order) in
@@ -23,4 +22,4 @@ loop-preserved c =
 
 pub returns-then-start-end : goal.returns-then-start-end
 returns-then-start-end c =
-    all_levels (found_of (seen c.args.view.now)) c.args.order.now.keys c.loop.order.keys c.loop.counter c.args.most c.loop.start (omega arith) (c.if-start-end.true ∙ c.len-end.ensures.len) c.loop.invariant.kept c.loop.invariant.grown
+    all_levels (found_of c.args.indexed.now) c.args.order.now.keys c.loop.order.keys c.loop.counter c.args.most c.loop.start (omega arith) (c.if-start-end.true ∙ c.len-end.ensures.len) c.loop.invariant.kept c.loop.invariant.grown

@@ -10,12 +10,12 @@ use Rattle.link_open_images.proofs.object_bindings.binding.bindings_of.Goals.{th
 use Rattle.link_open_images.proofs.object_bindings.binding.bindings_of.Goals as goal
 
 pub push_relas-requires-clause-read : goal.push_relas-requires-clause-read
-push_relas-requires-clause-read c = can_read c.args.sight.now c.args.now c.args.made.now.places.now c.args.made.now.objects.now c.args.made.now.images.now c.requires.made
+push_relas-requires-clause-read c = can_read c.args.indexed.now c.args.now c.args.made.now.places.now c.args.made.now.objects.now c.args.made.now.images.now c.requires.made
 
 pub returns : goal.returns
 unfolding bindings_in
 returns c =
-    let ns : Seen = c.args.sight.now in
+    let ns : Seen = c.args.indexed.now in
     let bytes : Copies = copies_from ns c.args.now c.args.made.now.places.now c.args.made.now.objects.now in
     let relas : List Binding = map (rela_binding bytes ns c.args.owner.now) c.args.owner.now.object.relocs in
     let first : c.push_relas.new.bindings ≡ relas = c.in_ok-push_relas.ensures c.args.now c.requires.made ∙ ap (λ (bs : List Binding). bs ++ relas) c.new-bindings.ensures in

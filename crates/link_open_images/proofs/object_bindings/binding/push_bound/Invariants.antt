@@ -5,4 +5,4 @@ use Rattle.link_open_images.proofs.object_bindings.binding.push_bound.Given as g
 
 -- those of the slots in front
 abbrev pub invariant-loop-index : goal.invariant-loop-index
-invariant-loop-index l = l.bindings ≡ l.initial.bindings ++ map (λ r. binding_in l.sight r (choice_at l.sight l.owner r)) (take l.index l.slot-items)
+invariant-loop-index l = l.bindings ≡ l.initial.bindings ++ map (λ r. binding_in l.indexed r (choice_at l.indexed l.owner r)) (take l.index l.slot-items)

@@ -16,7 +16,7 @@ no_reloc = record { place = 0; kind = 0; symbol = 0; addend = pos 0 }
 
 pub loop-index-preserved : goal.loop-index-preserved
 loop-index-preserved c = λ now are.
-    let ns : Seen = c.args.sight.now in
+    let ns : Seen = c.args.indexed.now in
     let bytes : Copies = copies_from ns now c.args.made.now.places.now c.args.made.now.objects.now in
     let items : List Reloc = c.as_slice-reloc-items.result.now in
     let k : ℕ = c.loop-index.index in
@@ -33,6 +33,6 @@ loop-index-preserved c = λ now are.
 pub returns : goal.returns
 returns c = λ now are.
     let items : List Reloc = c.as_slice-reloc-items.result.now in
-    let f : Reloc → Binding = rela_binding (copies_from c.args.sight.now now c.args.made.now.places.now c.args.made.now.objects.now) c.args.sight.now c.args.owner.now in
+    let f : Reloc → Binding = rela_binding (copies_from c.args.indexed.now now c.args.made.now.places.now c.args.made.now.objects.now) c.args.indexed.now c.args.owner.now in
     c.loop-index.invariant now are
     ∙ ap (λ (rs : List Reloc). c.args.bindings.now ++ map f rs) (take_all c.loop-index.index items c.loop-index-test.false ∙ c.as_slice-reloc-items.ensures)

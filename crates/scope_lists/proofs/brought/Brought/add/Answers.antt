@@ -9,4 +9,4 @@ returns-then-not-has c = λ q own.
     let before : List ℕ = brought_of c.args.self.now q in
     sym (append-nil before)
     ∙ ap (λ (l : List ℕ). before ++ l)
-    (brings_nothing c.args.owners.now.serials.keys (seen c.args.view.now) c.args.root q c.breadth_grows.ensures (c.requires.apart c.if-apart.true) (sym c.has.ensures ∙ c.if-not-has.true) own)
+    (brings_nothing c.args.owners.now.serials.keys (seen c.args.view.now) c.args.root q (c.requires.apart c.if-apart.true) (sym c.has.ensures ∙ c.if-not-has.true) own)

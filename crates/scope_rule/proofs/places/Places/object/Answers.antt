@@ -1,7 +1,7 @@
 use Rattle.std.proofs.Common.{◌≡◌, None, rules, sym, ◌∙◌}
 use Rattle.std.specs.Option.{option_copied}
 use Rattle.scope_rule.specs.Seen.{seen}
-use Rattle.scope_rule.proofs.Placed.{object_found, none_found}
+use Rattle.scope_rule.specs.Lemmas.Placed.{object_found, none_found}
 use Rattle.scope_rule.proofs.places.Places.object.Goals as goal
 
 pub returns : goal.returns

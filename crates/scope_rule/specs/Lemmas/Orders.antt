@@ -1,33 +1,30 @@
--- A list that is extended by what it lacks; breadth-first order, a level at a time; and the part of an order from a number on.
-use Rattle.std.proofs.Common.{◌≡◌, ℕ, zero, suc, ◌+◌, ◌-◌, ◌<◌, ◌≤◌, ◌==◌, nat_le, Bool, true, false, not, ◌||◌, cond, ◌⊎◌, inl, inr, Option, Some, None}
+-- A list that is extended by what it lacks; breadth-first order, a level at a time; searches of one list and then of another.
+use Rattle.std.proofs.Common.{◌≡◌, ℕ, zero, suc, ◌+◌, ◌-◌, ◌<◌, ◌≤◌, ◌==◌, Bool, true, false, not, ◌||◌, cond, inl, inr, Option, Some, None}
 use Rattle.std.proofs.Common.{List, [], ◌∷◌, ◌++◌, length, take, drop, get_or, refl, sym, ap, ◌∙◌, append_assoc, append-nil, add-one, drop-cons, arith, rules}
 use Rattle.std.proofs.ByRecursion.{All-weaker}
-use Rattle.std.proofs.Math.Seq.{take-length, take-append_seam}
-use Rattle.std.proofs.lemmas.Bool.{cases_Bool, cases_lt, eqb-true}
+use Rattle.std.proofs.Math.Seq.{drop-append_seam, take-length}
+use Rattle.std.proofs.lemmas.Bool.{cases_Bool, eqb-true}
 use Rattle.std.proofs.lemmas.Grind.{flat_map-append, common_steps}
-use Rattle.std.proofs.lemmas.List.{length-append, take-append-le, take-append-drop, take_all}
-use Rattle.std.proofs.lemmas.List.Elements.{filter-append}
+use Rattle.std.proofs.lemmas.List.{length-append, take-append-le, take-append-drop}
 use Rattle.std.proofs.lemmas.List.Folds.{list_any-append}
-use Rattle.std.specs.List.{filter, flat_map, list_any, AllByRecursion}
+use Rattle.std.specs.List.{filter, flat_map, AllByRecursion}
 use Rattle.std.specs.Option.{option_or}
 use Rattle.scope_rule.specs.Breadth.{has, without, first_kept, extend, level, levels, breadth, order_to}
 use Rattle.scope_rule.specs.Choose.{first_with}
 use Rattle.scope_rule.specs.Loading.{found_of}
-use Rattle.scope_rule.specs.Loads.{new_of, Begins}
 use Rattle.scope_rule.specs.Seen.{Seen}
-pub use Rattle.std.proofs.lemmas.List.Folds.{find-append as find_either}
 
 -- ---- extending
 
 -- a list has one element, or it is 0: extending by it changes nothing
-abbrev pub lacks_not : List ℕ → ℕ → Bool
+abbrev lacks_not : List ℕ → ℕ → Bool
 lacks_not a x = x == 0 || has a x
 
-pub extend-append : (a xs ys : List ℕ) → extend a (xs ++ ys) ≡ extend (extend a xs) ys
-extend-append a [] ys = refl
-extend-append a (x ∷ xs) ys =
+pub extend_append : (a xs ys : List ℕ) → extend a (xs ++ ys) ≡ extend (extend a xs) ys
+extend_append a [] ys = refl
+extend_append a (x ∷ xs) ys =
     elim (lacks_not a x) as (λ v. cond v (extend a (xs ++ ys)) (extend (a ++ x ∷ []) (xs ++ ys)) ≡ extend (cond v (extend a xs) (extend (a ++ x ∷ []) xs)) ys)
-    [ true ↦ extend-append a xs ys | false ↦ extend-append (a ++ x ∷ []) xs ys ]
+    [ true ↦ extend_append a xs ys | false ↦ extend_append (a ++ x ∷ []) xs ys ]
 
 -- the elements that a list lacks
 abbrev fresh : List ℕ → List ℕ → List ℕ
@@ -53,10 +50,6 @@ extend_is a (x ∷ xs) =
       | inr h ↦ rw h (extend_is (a ++ x ∷ []) xs ∙ append_assoc a (x ∷ []) (lacking (a ++ x ∷ []) xs) ∙ rw (fresh_pushed a x (first_kept xs)) refl)
     ]
 
--- so it stands at the front
-pub extend_begins : (a xs : List ℕ) → Begins a (extend a xs)
-extend_begins a xs = (lacking a xs, extend_is a xs)
-
 extend_nothing : (xs : List ℕ) → extend [] xs ≡ without 0 (first_kept xs)
 extend_nothing xs = extend_is [] xs ∙ search rules
 
@@ -68,10 +61,10 @@ pub extended_length : (a xs : List ℕ) → length a ≤ length (extend a xs)
 extended_length a xs = rw (extend_is a xs) (omega (arith, length-append a (lacking a xs)))
 
 -- each element is 0 or in the list
-abbrev Covered : List ℕ → List ℕ → Type 0
+abbrev pub Covered : List ℕ → List ℕ → Type 0
 Covered a xs = AllByRecursion (λ x. lacks_not a x ≡ true) xs
 
-covered_stays : (a xs : List ℕ) → Covered a xs → extend a xs ≡ a
+pub covered_stays : (a xs : List ℕ) → Covered a xs → extend a xs ≡ a
 covered_stays a [] h = refl
 covered_stays a (x ∷ xs) h = rw h.0 (covered_stays a xs h.1)
 
@@ -96,21 +89,21 @@ covered_by_self a (x ∷ xs) =
     [ true ↦ λ h. all a h | false ↦ λ h. all (a ++ x ∷ []) (has_pushed a x) ]) refl
 
 -- what an extended list has, but for 0
-pub has_extended : (a xs : List ℕ) (q : ℕ) → (q == 0 || has (extend a xs) q) ≡ (q == 0 || has (a ++ xs) q)
+has_extended : (a xs : List ℕ) (q : ℕ) → (q == 0 || has (extend a xs) q) ≡ (q == 0 || has (a ++ xs) q)
 has_extended a [] q = rw append-nil refl
 has_extended a (x ∷ xs) q = rw list_any-append (grind (arith, common_steps, has_extended a xs q, has_extended (a ++ x ∷ []) xs q, list_any-append))
 
--- what a list has that 0 is put at the end of
-pub has_also : (xs : List ℕ) (q : ℕ) → has (cond (list_any (λ y. 0 == y) xs) xs (xs ++ 0 ∷ [])) q ≡ (q == 0 || has xs q)
-has_also xs q =
-    elim (list_any (λ y. 0 == y) xs) as (λ there. list_any (λ y. 0 == y) xs ≡ there → has (cond there xs (xs ++ 0 ∷ [])) q ≡ (q == 0 || has xs q)) [
-      | true ↦ λ e. zero_there xs q e
-      | false ↦ λ e. rw list_any-append (grind (arith, common_steps))
-    ] refl
-  where
-    zero_there : (ys : List ℕ) (x : ℕ) → list_any (λ y. 0 == y) ys ≡ true → has ys x ≡ (x == 0 || has ys x)
-    zero_there [] x e = absurd cc
-    zero_there (y ∷ ys) x e = grind (arith, common_steps, zero_there ys x)
+-- what two lists that have the same lack is the same
+fresh_alike : (a b ys : List ℕ) → ((q : ℕ) → lacks_not a q ≡ lacks_not b q) → fresh a ys ≡ fresh b ys
+fresh_alike a b [] same = refl
+fresh_alike a b (y ∷ ys) same = grind (arith, common_steps, same y, fresh_alike a b ys same)
+
+-- a list is extended by what its elements, once each, lack
+pub extended_by_once : (a xs : List ℕ) → a ++ drop (length (extend [] a)) (extend (extend [] a) xs) ≡ extend a xs
+extended_by_once a xs =
+    let once : List ℕ = extend [] a in
+    let more : drop (length once) (extend once xs) ≡ lacking once xs = ap (drop (length once)) (extend_is once xs) ∙ drop-append_seam once (lacking once xs) in
+    ap (λ (ys : List ℕ). a ++ ys) (more ∙ fresh_alike once a (first_kept xs) (has_extended [] a)) ∙ sym (extend_is a xs)
 
 -- an element that leads to nothing new may be left out
 left_out : (f : ℕ → List ℕ) (a : List ℕ) (x : ℕ) (ys : List ℕ) → Covered a (f x) → extend a (flat_map f (without x ys)) ≡ extend a (flat_map f ys)
@@ -119,9 +112,9 @@ left_out f a x (y ∷ ys) h =
     elim (cases_Bool (y == x)) [
       | inl e ↦
           let same : f y ≡ f x = ap f (eqb-true y x e) in
-          rw (e, same, extend-append a (f x) (flat_map f ys), covered_stays a (f x) h) (left_out f a x ys h)
+          rw (e, same, extend_append a (f x) (flat_map f ys), covered_stays a (f x) h) (left_out f a x ys h)
       | inr e ↦
-          rw (e, extend-append a (f y) (flat_map f (without x ys)), extend-append a (f y) (flat_map f ys))
+          rw (e, extend_append a (f y) (flat_map f (without x ys)), extend_append a (f y) (flat_map f ys))
           (left_out f (extend a (f y)) x ys (covered_extended a (f y) (f x) h))
     ]
 
@@ -130,13 +123,29 @@ once_is_enough : (f : ℕ → List ℕ) (a xs : List ℕ) → extend a (flat_map
 once_is_enough f a [] = refl
 once_is_enough f a (x ∷ xs) =
     let b : List ℕ = extend a (f x) in
-    extend-append a (f x) (flat_map f (without x (first_kept xs)))
+    extend_append a (f x) (flat_map f (without x (first_kept xs)))
     ∙ left_out f b x (first_kept xs) (covered_by_self a (f x))
     ∙ once_is_enough f b xs
-    ∙ sym (extend-append a (f x) (flat_map f xs))
+    ∙ sym (extend_append a (f x) (flat_map f xs))
 
 extend_kept : (f : ℕ → List ℕ) → f 0 ≡ [] → (a xs : List ℕ) → extend a (flat_map f (extend [] xs)) ≡ extend a (flat_map f xs)
 extend_kept f none a xs = ap (λ (o : List ℕ). extend a (flat_map f o)) (extend_nothing xs) ∙ left_out f a 0 (first_kept xs) (rw none tt) ∙ once_is_enough f a xs
+
+-- an element by itself, but for 0
+abbrev alone_but_zero : ℕ → List ℕ
+alone_but_zero x = cond (x == 0) [] (x ∷ [])
+
+each_alone : (a xs : List ℕ) → extend a (flat_map alone_but_zero xs) ≡ extend a xs
+each_alone a [] = refl
+each_alone a (x ∷ xs) = grind (arith, common_steps, each_alone a xs, each_alone (a ++ x ∷ []) xs)
+
+-- a list is extended by the same where each of it stands once
+pub extended_once : (a xs : List ℕ) → extend a (extend [] xs) ≡ extend a xs
+extended_once a xs = sym (each_alone a (extend [] xs)) ∙ extend_kept alone_but_zero refl a xs ∙ each_alone a xs
+
+-- an extended list has what it is extended by, but for 0
+pub in_extended : (a xs : List ℕ) (q : ℕ) → (q == 0) ≡ false → has xs q ≡ true → has (extend a xs) q ≡ true
+in_extended a xs q some there = grind (arith, common_steps, has_extended a xs q, list_any-append, some, there)
 
 -- ---- levels
 
@@ -147,7 +156,7 @@ entry_step f order s total i end x lt len long front here so_far =
     let within : i < length s = omega arith in
     let same : x ≡ get_or s i x = grind (arith, common_steps, front, here) in
     let parts : drop i s ≡ x ∷ drop (i + 1) s = rw (add-one, drop-cons s i x, ← same) refl in
-    sym (extend-append order (f x) (flat_map f (drop (i + 1) s))) ∙ ap (λ (ys : List ℕ). extend order (flat_map f ys)) (sym parts) ∙ so_far
+    sym (extend_append order (f x) (flat_map f (drop (i + 1) s))) ∙ ap (λ (ys : List ℕ). extend order (flat_map f ys)) (sym parts) ∙ so_far
 
 -- the levels are the root and what the levels before lead to
 levels_shift : (ns : Seen) (root n : ℕ) → levels ns root (suc n) ≡ root ∷ flat_map (found_of ns) (levels ns root n)
@@ -166,7 +175,7 @@ pub level_step : (f : ℕ → List ℕ) (first : List ℕ) (start : ℕ) (order 
 level_step f first start order grown =
     let rest : List ℕ = flat_map f (drop start order) in
     let whole : flat_map f (take start order) ++ rest ≡ flat_map f order = sym (flat_map-append f (take start order) (drop start order)) ∙ ap (flat_map f) (take-append-drop start order) in
-    ap (λ (o : List ℕ). extend o rest) grown ∙ sym (extend-append first (flat_map f (take start order)) rest) ∙ ap (extend first) whole
+    ap (λ (o : List ℕ). extend o rest) grown ∙ sym (extend_append first (flat_map f (take start order)) rest) ∙ ap (extend first) whole
 
 -- which is the order of one level more
 pub one_level_more : (f : ℕ → List ℕ) (first : List ℕ) (n : ℕ) (order : List ℕ) → order ≡ order_to f first n → extend first (flat_map f order) ≡ order_to f first (n + 1)
@@ -179,7 +188,7 @@ grown_step f first order added n end e =
     e ∙ ap (λ (o : List ℕ). extend first (flat_map f o)) (sym (ap (λ (k : ℕ). take k (extend order added)) end ∙ extended_front order added order (length order) (omega arith) (take-length order)))
 
 -- where the order has all that its entries lead to, more levels add nothing
-stays : (f : ℕ → List ℕ) (first : List ℕ) (n more : ℕ) (order : List ℕ) → order ≡ order_to f first n → order ≡ extend first (flat_map f order) → order ≡ order_to f first (more + n)
+pub stays : (f : ℕ → List ℕ) (first : List ℕ) (n more : ℕ) (order : List ℕ) → order ≡ order_to f first n → order ≡ extend first (flat_map f order) → order ≡ order_to f first (more + n)
 stays f first n zero order kept whole = (let none : n ≡ 0 + n = omega arith in kept ∙ ap (order_to f first) none)
 stays f first n (suc more) order kept whole =
     let next : suc (more + n) ≡ suc more + n = omega arith in
@@ -197,7 +206,7 @@ kept_step ns root n order kept =
     let f = found_of ns in
     ap (λ (o : List ℕ). extend (alone root) (flat_map f o)) kept
     ∙ extend_kept f refl (alone root) (levels ns root n)
-    ∙ sym (extend-append [] (root ∷ []) (flat_map f (levels ns root n)))
+    ∙ sym (extend_append [] (root ∷ []) (flat_map f (levels ns root n)))
     ∙ ap (extend []) (sym (levels_shift ns root n))
 
 is_breadth : (ns : Seen) (root n : ℕ) (order : List ℕ) → n ≡ length ns.objects → order ≡ extend [] (levels ns root n) → order ≡ breadth ns root
@@ -205,7 +214,7 @@ unfolding breadth
 is_breadth ns root n order many kept = kept ∙ extend_nothing (levels ns root n) ∙ ap (λ (k : ℕ). without 0 (first_kept (levels ns root k))) many
 
 -- the orders of the levels are those that grow
-pub levels_order : (ns : Seen) (root m : ℕ) → extend [] (levels ns root m) ≡ order_to (found_of ns) (alone root) m
+levels_order : (ns : Seen) (root m : ℕ) → extend [] (levels ns root m) ≡ order_to (found_of ns) (alone root) m
 levels_order ns root zero = refl
 levels_order ns root (suc m) =
     sym (kept_step ns root m (extend [] (levels ns root m)) refl)
@@ -223,95 +232,3 @@ first_of_two pick (x ∷ xs) ys =
     let or : Option ℕ → Option (ℕ × ℕ) → Option (ℕ × ℕ) = λ i rest. elim i as (λ o. Option (ℕ × ℕ)) [ Some n ↦ Some (x, n) | None ↦ rest ] in
     elim (pick x) as (λ i. or i (first_with pick (xs ++ ys)) ≡ option_or (or i (first_with pick xs)) (first_with pick ys))
     [ Some n ↦ refl | None ↦ first_of_two pick xs ys ]
-
--- ---- a list that leads to itself
-
--- the first elements, and what the elements lead to
-abbrev pub reach : (ℕ → List ℕ) → List ℕ → List ℕ → List ℕ
-reach f first xs = extend first (flat_map f xs)
-
--- a list leads to itself, and each front of it to more than it has
-pub record IsQueue (f : ℕ → List ℕ) (first all : List ℕ) : Type 0 where
-  pub whole : all ≡ reach f first all
-  pub grows : (k : ℕ) → k < length all → k < length (reach f first (take k all))
-
-begins_take : (front all : List ℕ) → Begins front all → take (length front) all ≡ front
-begins_take front all b = ap (take (length front)) b.1 ∙ take-append_seam front b.0
-
--- a front that is as long is the list
-begins_all : (front all : List ℕ) → Begins front all → length all ≤ length front → front ≡ all
-begins_all front all b le = sym (begins_take front all b) ∙ take_all (length front) all le
-
-reach_more : (f : ℕ → List ℕ) (first xs ys : List ℕ) → Begins (reach f first xs) (reach f first (xs ++ ys))
-reach_more f first xs ys = (
-  lacking (reach f first xs) (flat_map f ys),
-  ap (extend first) (flat_map-append f xs ys) ∙ extend-append first (flat_map f xs) (flat_map f ys) ∙ extend_is (reach f first xs) (flat_map f ys),
-)
-
-module _ (f : ℕ → List ℕ) (first all : List ℕ) (q : IsQueue f first all) where
-  order_begins : (n : ℕ) → Begins (order_to f first n) all
-  order_begins zero = (lacking first (flat_map f all), q.whole ∙ extend_is first (flat_map f all))
-  order_begins (suc n) =
-      let b = order_begins n in
-      let next = reach_more f first (order_to f first n) b.0 in
-      (next.0, q.whole ∙ ap (reach f first) b.1 ∙ next.1)
-
-  -- each level adds an element, until all are there
-  order_grows : (n : ℕ) → (n ≤ length (order_to f first n)) ⊎ (length all ≤ length (order_to f first n))
-  order_grows zero = inl (omega arith)
-  order_grows (suc n) =
-      let order : List ℕ = order_to f first n in
-      let b : Begins order all = order_begins n in
-      elim (cases_lt (length order) (length all)) [
-        | inl lt ↦
-            let more : length order < length (reach f first order) = rw (begins_take order all b) at (q.grows (length order) lt) in
-            elim (order_grows n) [ inl long ↦ inl (omega arith) | inr done ↦ absurd (omega arith) ]
-        | inr done ↦
-            let same : reach f first order ≡ all = ap (reach f first) (begins_all order all b done) ∙ sym q.whole in
-            inr (rw same (omega arith))
-      ]
-
-  pub queue_order : (n : ℕ) → length all ≤ n → order_to f first n ≡ all
-  queue_order n le = begins_all (order_to f first n) all (order_begins n) (elim (order_grows n) [ inl long ↦ omega arith | inr done ↦ done ])
-
--- ---- the part of a list from a number on
-
-new_has : (next x : ℕ) (xs : List ℕ) → nat_le next x ≡ true → has (new_of next xs) x ≡ has xs x
-new_has next x [] new = refl
-new_has next x (y ∷ ys) new = grind (arith, common_steps, new_has next x ys new)
-
-new_extend_one : (next x : ℕ) (a : List ℕ) → new_of next (extend a (x ∷ [])) ≡ extend (new_of next a) (new_of next (x ∷ []))
-new_extend_one next x a = grind (arith, common_steps, new_has next x a, filter-append (nat_le next) a (x ∷ []))
-
--- the new part of an order is an order of the new parts
-pub new_extend : (next : ℕ) (a xs : List ℕ) → new_of next (extend a xs) ≡ extend (new_of next a) (new_of next xs)
-new_extend next a [] = refl
-new_extend next a (x ∷ xs) =
-    let one : List ℕ = new_of next (x ∷ []) in
-    ap (new_of next) (extend-append a (x ∷ []) xs)
-    ∙ new_extend next (extend a (x ∷ [])) xs
-    ∙ ap (λ (l : List ℕ). extend l (new_of next xs)) (new_extend_one next x a)
-    ∙ sym (ap (extend (new_of next a)) (filter-append (nat_le next) (x ∷ []) xs) ∙ extend-append (new_of next a) one (new_of next xs))
-
-pub new_flat : (next : ℕ) (f : ℕ → List ℕ) (xs : List ℕ) → flat_map (λ s. new_of next (f s)) xs ≡ new_of next (flat_map f xs)
-new_flat next f [] = refl
-new_flat next f (x ∷ xs) = ap (λ (l : List ℕ). new_of next (f x) ++ l) (new_flat next f xs) ∙ sym (filter-append (nat_le next) (f x) (flat_map f xs))
-
--- where old ones lead to nothing, what is led to by the new part is all
-flat_new : (next : ℕ) (f : ℕ → List ℕ) → ((s : ℕ) → nat_le next s ≡ false → f s ≡ []) → (xs : List ℕ) → flat_map f (new_of next xs) ≡ flat_map f xs
-flat_new next f none [] = refl
-flat_new next f none (x ∷ xs) =
-    elim (cases_Bool (nat_le next x)) [
-      | inl new ↦ rw new (ap (λ (l : List ℕ). f x ++ l) (flat_new next f none xs))
-      | inr old ↦ rw (old, none x old) (flat_new next f none xs)
-    ]
-
--- so the new part of each order is the order of what leads to new ones
-pub new_order : (next : ℕ) (f : ℕ → List ℕ) (first : List ℕ) → ((s : ℕ) → nat_le next s ≡ false → new_of next (f s) ≡ []) → (n : ℕ)
-    → new_of next (order_to f first n) ≡ order_to (λ s. new_of next (f s)) (new_of next first) n
-new_order next f first none zero = refl
-new_order next f first none (suc n) =
-    let g = λ (s : ℕ). new_of next (f s) in
-    let order : List ℕ = order_to f first n in
-    new_extend next first (flat_map f order)
-    ∙ ap (extend (new_of next first)) (sym (new_flat next f order) ∙ sym (flat_new next g none order) ∙ ap (flat_map g) (new_order next f first none n))

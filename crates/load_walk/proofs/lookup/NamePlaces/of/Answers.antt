@@ -1,7 +1,7 @@
 use Rattle.std.proofs.Common.{◌∙◌, sym}
 use Rattle.std.specs.Str.{bytes_eq}
 use Rattle.load_walk.proofs.Lookups.{one_further}
-use Rattle.load_walk.proofs.lookup.Places.of.Goals as goal
+use Rattle.load_walk.proofs.lookup.NamePlaces.of.Goals as goal
 
 pub loop-place-preserved : goal.loop-place-preserved
 loop-place-preserved c = λ bytes.
