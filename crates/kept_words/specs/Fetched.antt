@@ -34,8 +34,8 @@ pub data IsCodeAt (journal : List Event) (a bits : ℕ) : Type 0 where
   unmapped : IsAsked a 4 → (was : WasTaken journal (place_of a)) → bits ≡ lane (first_word_at (after (take was.number journal)) (doubleword_of a)) a 4
       → IsCodeAt journal a bits
 
--- so it is with each fetch in a trail that was answered, but for those that a role crossed: the journal took it away between the fetch's look at the role and
--- its load of the word, and of the bytes nothing is said. These roles stand among all that went, in the same order, one for each such fetch
+-- so it is with each fetch in a trail that was answered, but for some, of whose bytes nothing is said: for each of these stands a role RX of its doubleword
+-- that the journal took away. Each role that went stands for one fetch at most, in the order in which they went
 pub record AreCode (journal : List Event) (trail : List TrailItem) : Type 0 where
   pub gone : List Retired
   pub have_gone : HaveGone journal gone

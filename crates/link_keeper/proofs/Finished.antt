@@ -13,6 +13,7 @@ use Rattle.word_rule.specs.declared.view.Fate.{Fate}
 use Rattle.word_rule.specs.declared.view.Fate.TheVariants.{Lost as FateLost, Won as FateWon}
 use Rattle.word_rule.specs.declared.view.HartView.{HartView}
 use Rattle.word_rule.specs.declared.view.KeeperView.{KeeperView}
+use Rattle.word_rule.specs.declared.view.OpenRow.{OpenRow}
 use Rattle.word_rule.specs.declared.view.Row.{Row}
 use Rattle.word_rule.specs.KeeperSteps.{AreDecided, AreJoinedOnce, HasEnded, HasTakenAll, TellsAsk, awaited_if, settled_as}
 use Rattle.word_rule.specs.Layout.{harts_at_most}
@@ -120,7 +121,7 @@ none_there w begun state k keeps id low none = by (row_of k id).pending refl
     by (Some g) is = absurd (none_pending w begun state k keeps id low (subst (λ (es : List Event). HasNoGrant (after es) id) (sym keeps.same) none) g is)
 
 pub ends_nothing : (k : KeeperView) → SettlesEnded 0 k k
-ends_nothing k = record { settled = settles_nothing k; none = λ m low. absurd (omega (arith, low)); rest = λ m high. refl }
+ends_nothing k = record { settled = settles_nothing k; none = λ m low. absurd (omega (arith, low)); rest = λ m high. refl; unasked = refl }
 
 pub ends_more : (n : ℕ) (k l m : KeeperView) → SettlesEnded n k l → SettlesOne n l m → (row_of m n).pending ≡ None → SettlesEnded (n + 1) k m
 ends_more n k l m all one none = record {
@@ -131,6 +132,7 @@ ends_more n k l m all one none = record {
   rest = λ j high. dite (ℕ_discrete j n)
       (λ (same : j ≡ n). absurd (let more : n + 1 ≤ j = high in omega (arith, more, same)))
       (λ (apart : j ≢ n). one.others j apart ∙ all.rest j (let more : n + 1 ≤ j = high in omega (arith, more)));
+  unasked = one.opened ∙ ap (λ (xs : List OpenRow). l.opens ++ xs) (one.unasked none) ∙ append-nil l.opens ∙ all.unasked;
 }
 
 pub ended_still : (n : ℕ) (k l : KeeperView) → SettlesEnded n k l → HasEndedThere k n → HasEndedThere l n

@@ -39,7 +39,7 @@ use Rattle.world_memory.specs.declared.turn_answers.answered.MemoryChange.{Memor
 use Rattle.link_keeper.specs.Entering.{AreQuiet}
 use Rattle.link_keeper.specs.Handing.{HasEvents, IsPassed, MayHandOver}
 use Rattle.link_keeper.specs.Keeping.{FirstGoesOn, KeepsView, WasOver}
-use Rattle.link_keeper.specs.Passing.{HasPassed, InStep, IsNext, IsPassing, MayPass, PassesNext, left_of, took}
+use Rattle.link_keeper.specs.Passing.{HasPassed, IsNext, IsPassing, MayPass, PassesNext, left_of, took}
 use Rattle.link_keeper.specs.Remaking.{ComesTo, Remakes}
 use Rattle.link_keeper.proofs.Kept.{inside, later_number, row_field}
 use Rattle.link_keeper.proofs.Rest.{first_entry, left_is, quiet_view, took_both, took_one}
@@ -176,9 +176,6 @@ module _ (stay : EventsStay) (quiet_kept : QuietKept) (remade_kept : RemadeKept)
     quiet = ev.quiet;
     entry = record { mark = refl; number = refl; generation = ready.generation };
   }
-
-  pub step_here : InStep k1 h
-  step_here = hand.step ∙ ap (λ (r : Row). r.issued) (sym (rows1 h.number))
 
   pub may_here : MayPass k1 id
   may_here = record {

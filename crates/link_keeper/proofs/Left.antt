@@ -1,5 +1,5 @@
 -- A turn under the lock is a round: what it settles first, and what comes behind.
-use Rattle.std.proofs.Common.{◌≡◌, ⊎_elim, inl, inr, ℕ, ◌<◌, true, List, [], ◌∷◌, ◌++◌, Option, None, Some, refl, sym, ap, subst, ◌∙◌, append-nil, append_assoc}
+use Rattle.std.proofs.Common.{◌≡◌, ⊎_elim, inl, inr, ℕ, ◌<◌, true, List, [], ◌∷◌, ◌++◌, Option, None, Some, refl, sym, ap, subst, ◌∙◌, append_assoc}
 use Rattle.std.specs.Prelude.{◌⊎◌}
 use Rattle.history_event.specs.declared.event.Event.{Event}
 use Rattle.history_event.specs.declared.event.Event.TheVariants.{Ended}
@@ -12,11 +12,13 @@ use Rattle.word_rule.specs.KeeperSteps.{awaited_if}
 use Rattle.word_rule.specs.Layout.{harts_at_most}
 use Rattle.word_rule.specs.Views.{row_of}
 use Rattle.history_state.specs.After.{after}
+use Rattle.history_state.specs.Allowed.{MayEnd}
 use Rattle.history_state.specs.Setting.{Setting}
 use Rattle.history_state.specs.Slots.{HasNoGrant}
 use Rattle.link_keeper.specs.Finishing.{SettledUpTo}
+use Rattle.link_keeper.specs.Joining.{SettlesEnded}
 use Rattle.link_keeper.specs.Passing.{PassesNext}
-use Rattle.link_keeper.specs.Rounds.{AreRounds, IsSettling, IsTurnOf, WasFoundOpen}
+use Rattle.link_keeper.specs.Rounds.{AreAllRounds, AreRounds, IsSettling, IsTurnOf, WasFoundOpen}
 use Rattle.link_keeper.specs.Settling.{HasSettled, SettlesAll, SettlesFirst, SettlesOrRests}
 
 -- once all rows were asked
@@ -28,7 +30,7 @@ all_settled k l all free = record {
   opened = all.opened;
   settling = record {
     in_order = subst (λ (es : List Event). SettledUpTo es harts_at_most all.more) all.events all.in_order;
-    now = all.now;
+    meanwhile = all.meanwhile;
     left_open = λ m low. by m low (row_of l m).pending refl;
   };
 }
@@ -51,22 +53,26 @@ settled_first h k0 k l awaited all free =
     }
 
 -- and then the events of the turn came
-pub own_behind_settled : (w : Setting) (h : ℕ) (k0 k l : KeeperView) (own : List Event) → SettlesAll k0 k → l.events ≡ k.events ++ own → IsTurnOf w k.events h own → l.opens ≡ k.opens
+pub own_behind_settled : (w : Setting) (h : ℕ) (k0 k l : KeeperView) (own : List Event) → SettlesAll k0 k → HasNoGrant (after k.events) h → l.events ≡ k.events ++ own → IsTurnOf w k.events h own → l.opens ≡ k.opens
     → SettlesFirst w h k0 l
-own_behind_settled w h k0 k l own first are turn opens = record {
+own_behind_settled w h k0 k l own first free are turn opens = record {
   settled = first.settled;
   own = own;
   events = are ∙ ap (λ (es : List Event). es ++ own) first.events ∙ append_assoc k0.events first.settled own;
   asked = first.asked;
   opened = opens ∙ first.opened;
-  round = record { first = first.settling; turn = subst (λ (es : List Event). IsTurnOf w es h own) first.events turn };
+  round = record {
+    first = first.settling;
+    free = subst (λ (es : List Event). HasNoGrant (after es) h) first.events free;
+    turn = subst (λ (es : List Event). IsTurnOf w es h own) first.events turn;
+  };
 }
 
 -- and so did the end of the hart
-pub end_behind_settled : (w : Setting) (h : ℕ) (k0 k l : KeeperView) (before i : HartView) (id : ℕ) (reason : HartEnd) → id ≡ h → SettlesAll k0 k
+pub end_behind_settled : (w : Setting) (h : ℕ) (k0 k l : KeeperView) (before i : HartView) (id : ℕ) (reason : HartEnd) → id ≡ h → SettlesAll k0 k → HasNoGrant (after k.events) id → MayEnd w (after k.events) id
     → PassesNext id (Ended id reason) k l before i → SettlesFirst w h k0 l
-end_behind_settled w h k0 k l before i id reason same first next = subst (λ (n : ℕ). SettlesFirst w n k0 l) same
-    (own_behind_settled w id k0 k l (Ended id reason ∷ []) first (ap (λ (x : KeeperView). x.events) next.keeper) (IsTurnOf.by_end reason) (ap (λ (x : KeeperView). x.opens) next.keeper))
+end_behind_settled w h k0 k l before i id reason same first free may next = subst (λ (n : ℕ). SettlesFirst w n k0 l) same
+    (own_behind_settled w id k0 k l (Ended id reason ∷ []) first free (ap (λ (x : KeeperView). x.events) next.keeper) (IsTurnOf.by_end reason may) (ap (λ (x : KeeperView). x.opens) next.keeper))
 
 -- ---- the rounds so far
 
@@ -80,7 +86,14 @@ one_or_none_more w begun h k l before x = ⊎_elim
     (λ (more : SettlesFirst w h k l). one_round_more w begun h k l before more)
     x
 
--- the last grants were settled
-pub last_round_more : (w : Setting) (begun : List Event) (k l : KeeperView) → AreRounds w begun k.events k.opens → SettlesAll k l → AreRounds w begun l.events l.opens
-last_round_more w begun k l before x =
-    one_round_more w begun 0 k l before (own_behind_settled w 0 k l l [] x (sym (append-nil l.events)) IsTurnOf.none refl)
+-- the last grants were settled, and none was found open
+pub all_rounds : (w : Setting) (begun : List Event) (k l : KeeperView) → AreRounds w begun k.events k.opens → SettlesEnded harts_at_most k l
+    → ((m : ℕ) → (row_of l m).pending ≡ None → HasNoGrant (after l.events) m) → AreAllRounds w begun l.events l.opens
+all_rounds w begun k l before ended free = record {
+  past = k.events;
+  rounds = subst (AreRounds w begun k.events) (sym ended.unasked) before;
+  settled = ended.settled.more;
+  events_are = ended.settled.events;
+  in_order = ended.settled.in_order;
+  free = λ m low. free m (ended.none m low);
+}

@@ -79,7 +79,7 @@ settling_later : (journal more : List Event) (h : ℕ) (e : Event) → IsSettlin
 settling_later journal more h e (g, f, at, is) =
     (g, f, later_event journal more h g at, subst (λ (n : ℕ). IsFateEvent n f e) (sym (later_number journal more h g at)) is)
 
-pub settled_later : (journal more : List Event) (below : ℕ) (es : List Event) → SettledUpTo journal below es → SettledUpTo (journal ++ more) below es
+settled_later : (journal more : List Event) (below : ℕ) (es : List Event) → SettledUpTo journal below es → SettledUpTo (journal ++ more) below es
 settled_later journal more below es (SettledUpTo.nothing n) = SettledUpTo.nothing below
 settled_later journal more below es (SettledUpTo.one_more front h n e before low is) =
     SettledUpTo.one_more front h below e (settled_later journal more h front before) low (settling_later journal more h e is)
@@ -210,8 +210,9 @@ module _ (w : Setting) (begun : List Event) (state : LinkTable) (k : KeeperView)
       found = λ p waits. absurd ((was_waiting h p waits).0 refl);
       opens = [];
       opened = opens ∙ sym (append-nil k.opens);
-      now = λ x there. absurd (none_in x there);
+      meanwhile = λ x there. absurd (none_in x there);
       left_open = λ p waits. absurd ((was_waiting h p waits).0 refl);
+      unasked = λ none. refl;
     }
 
   -- ---- what an ask answered
@@ -277,8 +278,9 @@ module _ (w : Setting) (begun : List Event) (state : LinkTable) (k : KeeperView)
     found = λ p waits. absurd (none_pending id low none p waits);
     opens = [];
     opened = sym (append-nil k.opens);
-    now = λ x there. absurd (none_in x there);
+    meanwhile = λ x there. absurd (none_in x there);
     left_open = λ p waits. absurd (none_pending id low none p waits);
+    unasked = λ empty. refl;
   }
 
 -- ---- one row after another
@@ -324,7 +326,7 @@ settles_nothing k = record {
   found = λ m low. absurd (omega (arith, low));
   opens = [];
   opened = sym (append-nil k.opens);
-  now = λ x there. absurd (none_in x there);
+  meanwhile = λ x there. absurd (none_in x there);
   left_open = λ m g low. absurd (omega (arith, low));
 }
 
@@ -347,7 +349,7 @@ settles_more n k l m all one = record {
       (λ (apart : j ≢ n). subst IsFoundOpen (sym (one.others j apart)) (all.found j (let more : j < n + 1 = low in omega (arith, more, apart))));
   opens = all.opens ++ one.opens;
   opened = one.opened ∙ ap (λ (xs : List OpenRow). xs ++ one.opens) all.opened ∙ append_assoc k.opens all.opens one.opens;
-  now = among_more k.events l.events all.more one.more all.opens one.opens all.events all.now one.now;
+  meanwhile = among_more k.events l.events all.more one.more all.opens one.opens all.events all.meanwhile one.meanwhile;
   left_open = λ j g low waits. dite (ℕ_discrete j n)
       (λ (same : j ≡ n). found_right all.opens one.opens j
       (subst (λ (i : ℕ). WasFoundOpen i one.opens) (sym same) (one.left_open g (sym (ap (λ (i : ℕ). (row_of m i).pending) same) ∙ waits))))
@@ -416,8 +418,9 @@ module _ (w : Setting) (begun : List Event) (state : LinkTable) (k : KeeperView)
     found = λ p waits. (ap (λ (r : Row). r.found_open) row_is, ap (λ (r : Row). r.since) row_is ∙ not_since (row_of k h).since refl says);
     opens = record { hart = h; number = length k.events } ∷ [];
     opened = ap (λ (x : KeeperView). x.opens) is;
-    now = asked_once h k.events;
+    meanwhile = asked_once h k.events;
     left_open = λ p waits. (record { hart = h; number = length k.events }, here (record { hart = h; number = length k.events }) [], refl);
+    unasked = λ none. absurd (let no : None ≡ Some g = sym none ∙ ap (λ (r : Row). r.pending) row_is ∙ pending in cc no);
   }
     where
       row_is : row_of l h ≡ record (row_of k h) { found_open = true }

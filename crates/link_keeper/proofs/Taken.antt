@@ -75,9 +75,6 @@ call_moves w past h b c call to did is x = subst (λ (d : Due). MovesAs w past h
 done_on : (r : Resolving) → settled_resolving r ≡ Resolving.idle → settled_resolving (settled_resolving r) ≡ Resolving.idle
 done_on r is = ap settled_resolving is
 
-awaiting_done : (for : Shown) (b : HartState) → (awaiting for b).resolving ≡ b.resolving
-awaiting_done for b = refl
-
 -- ---- events
 
 room_events : (d : Due) (did : Did) (c : HartState) (spare : ℕ) (x : ComesToEvents d did c) → (may_give_block d ≡ true → 0 < spare) → is_storing did reply.Events ≡ true → 0 < spare
@@ -617,9 +614,6 @@ other_shown folders w past state h b c spare does r old now rise x other = none_
 
 module _ (w : Setting) (state mid : LinkTable) (folders : List (List ℕ)) (files : Option (List File)) (id : ℕ) (b b' : HartState) (came : Answered)
     (answers : AnswersDue state folders files id (due (after state.events) b) came mid) (over : IsOver (machine_of state.harts) folders files w) (same : b' ≡ b) (harts : mid.harts ≡ state.harts) where
-  pub turn_of : AnswersTurn w state.events mid.events mid.made id (due (after state.events) b) came
-  turn_of = answers w over
-
   pub was_answered : WasAnswered mid id b' came
   was_answered = record {
     setting = w;
@@ -642,10 +636,6 @@ other_meets past answer (answered.Over reason) no_grant no_again m = m
 pub others_meet : {w : Setting} {past es : List Event} {made : Installs} {h : ℕ} {d : Due} {came : Answered} (t : AnswersTurn w past es made h d came) → ((o : Offered) → came ≡ answered.Granted o → ⊥)
     → ((for : Shown) → came ≡ answered.Again for → ⊥) → (is_again t.answer ≡ false) × (is_grant t.answer ≡ false)
 others_meet {w} {past} {es} {made} {h} {d} {came} t no_grant no_again = other_meets past t.answer came no_grant no_again (meets past t.appended h made t.call t.answer came t.answered)
-
--- a call that ends its hart shows nothing in the counts
-pub end_shown : (folders : List (List ℕ)) (past new : List Event) (h : ℕ) (reason : HartEnd) (counts : Counts) → new ≡ past ++ events.Ended h reason ∷ [] → ShowInCounts folders (drop (length past) new) counts counts
-end_shown folders past new h reason counts are = none_shown folders past new (events.Ended h reason ∷ []) counts counts (record { faults = omega arith; misses = omega arith }) are (refl, tt)
 
 pub unlocated_is : (old mid : LinkTable) (h number : ℕ) (fault : TlsFault) → IsNotLocated old h number fault mid → mid ≡ old
 unlocated_is old mid h number (tls.BadModule bad) none = none.is

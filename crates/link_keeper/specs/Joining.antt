@@ -23,11 +23,12 @@ joins seats k = record k { joined = k.joined ++ map (knows k.events) seats }
 abbrev pub HasEndedThere : KeeperView → ℕ → Type 0
 HasEndedThere k m = (g : Grant) → (row_of k m).pending ≡ Some g → (j : HartView) × HasEnded k m j
 
--- the rows below this number were asked and have no grant left whose fate isn't known; the others are as they were
+-- the rows below this number were asked and have no grant left whose fate isn't known, and none was found open; the others are as they were
 pub record SettlesEnded (asked : ℕ) (k l : KeeperView) : Type 0 where
   pub settled : HasSettled asked k l
   pub none : (m : ℕ) → m < asked → (row_of l m).pending ≡ None
   pub rest : (m : ℕ) → asked ≤ m → row_of l m ≡ row_of k m
+  pub unasked : l.opens ≡ k.opens
 
 -- each of the first harts has taken all that was issued to it
 abbrev pub HaveTakenAll : ℕ → KeeperView → Type 0

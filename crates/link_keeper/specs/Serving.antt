@@ -45,8 +45,8 @@ pub record IsHandedOver (w : Setting) (begun : List Event) (k l : KeeperView) (h
 
 -- ---- what is read for it
 
--- the turn by which the keeper went from one view to the other reads nothing: behind the grants that were settled first its hart waits still, or calls for
--- no opening, or for one that needs no file. What comes behind these grants are the hart's own events
+-- the turn by which the keeper went from one view to the other needs no file: whichever of the new events are taken as those of nobody that come first, the
+-- others being the hart's own, behind them its hart waits still, or calls for no opening, or for one that needs no file
 abbrev pub ServedReadsNothing : ℕ → HartState → KeeperView → KeeperView → Type 0
 ServedReadsNothing h b k l = (settled own : List Event) → l.events ≡ k.events ++ (settled ++ own) → AreNobodys settled
     → ((e : Event) → Contains own e → hart_of e ≡ Some h) → TurnReadsNothing (after (k.events ++ settled)) (due (after (k.events ++ settled)) b)

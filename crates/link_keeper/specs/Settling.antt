@@ -29,10 +29,10 @@ pub record HasSettled (asked : ℕ) (k l : KeeperView) : Type 0 where
   pub found : (m : ℕ) → m < asked → IsFoundOpen (row_of l m)
   pub opens : List OpenRow
   pub opened : l.opens ≡ k.opens ++ opens
-  pub now : CameAmong k.events more opens
+  pub meanwhile : CameAmong k.events more opens
   pub left_open : (m : ℕ) (g : Grant) → m < asked → (row_of l m).pending ≡ Some g → WasFoundOpen m opens
 
--- all of them were, behind what the keeper had counted
+-- behind what the keeper had counted, each grant that was open is settled, or its row was found open meanwhile
 pub record SettlesAll (k l : KeeperView) : Type 0 where
   pub settled : List Event
   pub events : l.events ≡ k.events ++ settled
@@ -67,5 +67,6 @@ pub record SettlesOne (id : ℕ) (k l : KeeperView) : Type 0 where
   pub found : IsFoundOpen (row_of l id)
   pub opens : List OpenRow
   pub opened : l.opens ≡ k.opens ++ opens
-  pub now : CameAmong k.events more opens
+  pub meanwhile : CameAmong k.events more opens
   pub left_open : (g : Grant) → (row_of l id).pending ≡ Some g → WasFoundOpen id opens
+  pub unasked : (row_of l id).pending ≡ None → opens ≡ []

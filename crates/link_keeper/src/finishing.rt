@@ -11,7 +11,7 @@ ghost use Rattle.kept_words.specs.Over.{IsOver};
 ghost use Rattle.link_keeper.specs.Finishing.{RunIsOver, knows};
 ghost use Rattle.link_keeper.specs.Joining.{HasEndedThere, HaveTakenAll, IsFront, SettlesEnded, joins};
 ghost use Rattle.link_keeper.specs.Keeping.{KeepsState, KeepsView};
-ghost use Rattle.link_keeper.specs.Rounds.{AreRounds};
+ghost use Rattle.link_keeper.specs.Rounds.{AreAllRounds, AreRounds};
 ghost use Rattle.link_keeper.specs.Settling.{SettlesOne};
 
 use crate::hearing::hear;
@@ -45,7 +45,7 @@ pub fn finish<J: Opening>(
     ensures known { IsOver keeper.new }
     ensures state { state.new.events ≡ keeper.new.events }
     ensures joined { keeper.new.joined ≡ map (knows keeper.old.events) seats.items }
-    ensures rounds { AreRounds J.setting J.journal keeper.new.events keeper.new.opens }
+    ensures rounds { AreAllRounds J.setting J.journal keeper.new.events keeper.new.opens }
 {
     records_stay();
     run_is_over();

@@ -42,8 +42,8 @@ pub data StandAmong : List Retired → List Retired → Type 0 where
 abbrev pub IsNoFetch : TrailItem → Type 0
 IsNoFetch item = (a bits : ℕ) → item ≢ Call (Fetch a (Ok bits))
 
--- each answered fetch of a trail found this, but for those that a role crossed: it was RX when the fetch looked at it, and had gone when the fetch loaded the
--- word. These roles are listed, one for each such fetch
+-- each answered fetch of a trail found this, but for some: for each of these a role RX of the doubleword that it asked for is listed. That the role went
+-- between the fetch's look at the role and its load of the word isn't said
 pub data FetchesFind (found : ℕ → ℕ → Type 0) : List TrailItem → List Retired → Type 0 where
   nothing : FetchesFind found [] []
   no_fetch : (trail : List TrailItem) (crossed : List Retired) (item : TrailItem) → IsNoFetch item → FetchesFind found trail crossed
@@ -53,19 +53,20 @@ pub data FetchesFind (found : ℕ → ℕ → Type 0) : List TrailItem → List 
   crossing : (trail : List TrailItem) (crossed : List Retired) (a bits : ℕ) (went : Retired) → IsAsked a 4 → went.at ≡ place_of a → went.role ≡ Rx
       → FetchesFind found trail crossed → FetchesFind found (trail ++ Call (Fetch a (Ok bits)) ∷ []) (crossed ++ went ∷ [])
 
--- so it is with the fetches of a hart: each found code, but at most one for each role that went
+-- so it is with the fetches of a hart: each found code, but for some. Each role that went stands for one of these at most, in the order in which they went
 pub record AreFetched (known : ℕ → Kept) (gone : List Retired) (trail : List TrailItem) : Type 0 where
   pub crossed : List Retired
   pub among : StandAmong crossed gone
   pub each : FetchesFind (FoundCode known gone) trail crossed
 
--- the doubleword may be run, or lost the role by which it might, behind those that crossed fetches
+-- the doubleword lost the role by which it might be run, behind the roles listed
 pub record WentBehind (gone crossed : List Retired) (d : ℕ) : Type 0 where
   pub went : Retired
   pub at : went.at ≡ d
   pub role_is : went.role ≡ Rx
   pub behind : StandAmong (crossed ++ went ∷ []) gone
 
+-- it may be run, or lost that role behind those listed
 abbrev pub IsCode : (ℕ → Kept) → List Retired → List Retired → ℕ → Type 0
 IsCode known gone crossed d = ((known d).role ≡ Rx) ⊎ WentBehind gone crossed d
 

@@ -249,8 +249,8 @@ pub record AreJoinedOnce (k : KeeperView) : Type 0 where
   pub once : (i n : ℕ) (j l : HartView) → slice_get k.joined i ≡ Some j → slice_get k.joined n ≡ Some l → j.number ≡ l.number → i ≡ n
 
 -- it has taken all that was issued to it, and its row has no call; the fates of its grants are those of its exchanges, which found what
--- was seen of those that it lost; each of its readings of the generation has the last block before it; and each fetch found code, but for those
--- that a role crossed which went
+-- was seen of those that it lost; each of its readings of the generation has the last block before it; and each fetch found code, but for
+-- one at most for each role that went
 pub record HasTakenAll (k : KeeperView) (m n : ℕ) (j : HartView) : Type 0 where
   pub taken : j.lane.taken ≡ (row_of k m).issued
   pub entries : entries_of j.trail ≡ j.lane.taken

@@ -1,5 +1,5 @@
 -- Memory with what startup brings.
-use Rattle.std.proofs.Common.{◌≡◌, ℕ, ◌≤◌, List, [], refl, sym, ap, subst, ◌∙◌, arith}
+use Rattle.std.proofs.Common.{◌≡◌, ℕ, List, [], refl, sym, ap, subst, ◌∙◌}
 use Rattle.history_event.specs.declared.event.Event.{Event}
 use Rattle.history_calls.specs.declared.link_served.installs.Installs.{Installs}
 use Rattle.history_state.specs.After.{after}
@@ -20,9 +20,6 @@ fresh_at w begun harts k l made count is = subst (IsFresh w begun) (sym is) (rec
   events = refl;
   none_retired = made.none_retired;
 })
-
-pub low_generation : (harts n : ℕ) (begun : List Event) (k l : KeeperView) → IsMade k 512 harts → l ≡ record k { events = begun } → l.generation ≤ n
-low_generation harts n begun k l made is = subst (λ (g : ℕ). g ≤ n) (sym (ap (λ (v : KeeperView). v.generation) is ∙ made.no_modules)) (omega arith)
 
 -- and once its objects are installed
 pub is_set_up : StartupKept → (w : Setting) (begun : List Event) (installs : Installs) (k l : KeeperView) → IsStartup w begun installs → IsFresh w begun k → k.joined ≡ []

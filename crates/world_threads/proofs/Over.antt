@@ -38,7 +38,7 @@ use Rattle.kept_words.specs.Kept.{AreKept}
 use Rattle.kept_words.specs.Over.{IsFinished, IsOver}
 use Rattle.link_keeper.specs.Finishing.{IsExchangeOf, RunIsOver, TrailIsClosed, knows}
 use Rattle.link_keeper.specs.Keeping.{FirstGoesOn}
-use Rattle.link_keeper.specs.Rounds.{AreRounds}
+use Rattle.link_keeper.specs.Rounds.{AreAllRounds}
 use Rattle.trace_text.specs.RunTexts.Ends.{last_end}
 use Rattle.trace_text.specs.declared.run_texts.record.RunRecord.{RunRecord}
 use Rattle.word_rule.specs.declared.view.HartView.{HartView}
@@ -328,7 +328,7 @@ module _ (laws : Laws) (w : Setting) (setup : Setup) (past : List Event) (starte
   }
 
   pub threaded : (left : RunRecord) (trails : KeeperView) → left.journal.events ≡ journal → left.ends ≡ ends → trails.events ≡ journal
-      → trails.joined ≡ map (knows before) seats → AreKept w past trails → IsOver trails → AreRounds w past trails.events trails.opens → Starts w setup past started
+      → trails.joined ≡ map (knows before) seats → AreKept w past trails → IsOver trails → AreAllRounds w past trails.events trails.opens → Starts w setup past started
       → IsThreaded w setup left trails
   threaded left trails events_are ends_are counted joined kept known rounds starts = record {
     by = by_of starts left.journal.events events_are;
@@ -341,7 +341,7 @@ module _ (laws : Laws) (w : Setting) (setup : Setup) (past : List Event) (starte
     counted = counted ∙ sym events_are;
     kept = kept;
     over = known;
-    rounds = subst (λ (es : List Event). AreRounds w past es trails.opens) (counted ∙ sym events_are) rounds;
+    rounds = subst (λ (es : List Event). AreAllRounds w past es trails.opens) (counted ∙ sym events_are) rounds;
     last = record {
       all = ap length ends_are ∙ x.run.all_end;
       each = λ h reason at.

@@ -18,7 +18,7 @@ use Rattle.hart_trails.specs.Trails.{LeavesToItsEnd}
 use Rattle.kept_words.specs.Kept.{AreKept, IsFateEvent}
 use Rattle.kept_words.specs.Over.{IsOver}
 use Rattle.link_keeper.specs.Finishing.{IsExchangeOf, TrailIsClosed}
-use Rattle.link_keeper.specs.Rounds.{AreRounds}
+use Rattle.link_keeper.specs.Rounds.{AreAllRounds}
 use Rattle.trace_text.specs.RunTexts.Ends.{AreLastEnds}
 use Rattle.trace_text.specs.declared.run_texts.record.RunRecord.{RunRecord}
 use Rattle.word_rule.specs.Generations.{MarksOnce}
@@ -77,8 +77,8 @@ pub record IsThreaded (w : Setting) (setup : Setup) (left : RunRecord) (trails :
   -- what became of each grant is known, and what was seen of a slot is the value of the one that was bound
   pub over : IsOver trails
   -- behind startup they came round after round, each one turn of one hart at the linker: grants are settled first, in the order of their harts, and whose
-  -- grant is left open was asked for in that very round
-  pub rounds : AreRounds w by.startup left.journal.events trails.opens
+  -- grant is left open was asked for in that very round; and once every hart had ended, grants were settled a last time
+  pub rounds : AreAllRounds w by.startup left.journal.events trails.opens
   -- each hart has an end, which is the last one that the journal has of it
   pub last : AreLastEnds w.machine.harts (after left.journal.events).endings left.ends
   -- and a trail that leads there

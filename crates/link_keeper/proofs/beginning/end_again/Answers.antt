@@ -1,4 +1,4 @@
-use Rattle.std.proofs.Common.{◌<◌, [], refl, sym, ap, subst, length, ◌∙◌}
+use Rattle.std.proofs.Common.{[], refl, sym, ap, length, ◌∙◌}
 use Rattle.history_event.specs.declared.event.Event.TheVariants.{Ended}
 use Rattle.history_event.specs.declared.hart_end.HartEnd.TheVariants.{Memory}
 use Rattle.link_state.specs.Table.{LinkTable}
@@ -63,10 +63,11 @@ pub returns-clause-settled : goal.returns-clause-settled
 returns-clause-settled g c =
     let w = g.J.Opening.setting in
     let zeroth = c.id_of-id.ensures ∙ c.requires.zeroth in
+    let may = again_may w g.J.Opening.journal c.args.keeper.now c.attend.new.keeper c.args.seat.now c.attend.new.seat c.id_of-id.result c.attend.ensures.settled zeroth c.requires.over in
     let next = noted_next w g.J.Opening.journal c.attend.new.state c.attend.new.keeper c.args.seat.now c.attend.new.seat c.id_of-id.result c.attend.ensures.keeps c.requires.heard c.id_of-id.ensures c.attend.ensures.attends
-    (again_may w g.J.Opening.journal c.args.keeper.now c.attend.new.keeper c.args.seat.now c.attend.new.seat c.id_of-id.result c.attend.ensures.settled zeroth c.requires.over)
+    may
     (again_low w c.id_of-id.result zeroth c.requires.some) (λ _. zeroth) c.states_stay.ensures.events c.records_stay.ensures.quiet Memory c.ended.new.self
     (ap (λ (t : LinkTable). t.events) c.ended.ensures) (ap (λ (t : LinkTable). t.harts) c.ended.ensures) in
     end_behind_settled w c.args.seat.now.number c.args.keeper.now c.attend.new.keeper c.pass_next.new.keeper c.attend.new.seat c.pass_next.new.seat c.id_of-id.result Memory
-    c.id_of-id.ensures c.attend.ensures.first
+    c.id_of-id.ensures c.attend.ensures.first c.attend.ensures.attends.free may
     (c.pass_next.ensures.passed (Ended c.id_of-id.result Memory) [] next)

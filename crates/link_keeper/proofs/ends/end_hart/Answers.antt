@@ -1,4 +1,4 @@
-use Rattle.std.proofs.Common.{◌<◌, [], refl, sym, ap, subst, length, ◌∙◌}
+use Rattle.std.proofs.Common.{[], refl, sym, ap, length, ◌∙◌}
 use Rattle.history_event.specs.declared.event.Event.TheVariants.{Ended}
 use Rattle.link_state.specs.Table.{LinkTable}
 use Rattle.link_keeper.proofs.Ended.{end_follows, end_low, end_may, end_next, end_times, end_within, ends}
@@ -73,7 +73,9 @@ returns-clause-opened g c = one_more_came c.args.keeper.now.events c.attend.new.
 
 pub returns-clause-settled : goal.returns-clause-settled
 returns-clause-settled g c = end_behind_settled g.J.Opening.setting c.args.seat.now.number c.args.keeper.now c.attend.new.keeper c.pass_next.new.keeper c.attend.new.seat c.pass_next.new.seat c.id_of-id.result
-    c.args.reason c.id_of-id.ensures c.attend.ensures.first
+    c.args.reason c.id_of-id.ensures c.attend.ensures.first c.attend.ensures.attends.free
+    (end_may c.harts_fit.ensures.others c.running_is_not_over.ensures.runs c.harts_fit.ensures.may_end g.J.Opening.setting g.J.Opening.journal c.attend.new.state c.attend.new.keeper c.args.seat.now c.attend.new.seat c.id_of-id.result
+    c.attend.ensures.keeps c.requires.heard c.id_of-id.ensures c.requires.run c.attend.ensures.attends)
     (c.pass_next.ensures.passed (Ended c.id_of-id.result c.args.reason) [] (end_next c.harts_fit.ensures.others c.running_is_not_over.ensures.runs c.harts_fit.ensures.may_end g.J.Opening.setting g.J.Opening.journal c.attend.new.state c.attend.new.keeper c.args.seat.now
     c.attend.new.seat c.id_of-id.result c.attend.ensures.keeps c.requires.heard c.id_of-id.ensures c.requires.run c.attend.ensures.attends c.states_stay.ensures.events c.records_stay.ensures.quiet c.args.reason
     c.ended.new.self (ap (λ (t : LinkTable). t.events) c.ended.ensures) (ap (λ (t : LinkTable). t.harts) c.ended.ensures)))

@@ -3,6 +3,7 @@ use Rattle.std.specs.List.{Contains}
 use Rattle.history_event.specs.declared.event.Event.{Event}
 use Rattle.history_journal.specs.Following.{machine_of}
 use Rattle.history_state.specs.After.{after}
+use Rattle.history_state.specs.Slots.{HasNoGrant}
 use Rattle.history_state.specs.Legal.{Legal}
 use Rattle.hart_fits.specs.Fits.{HartFits}
 use Rattle.hart_moves.specs.Harts.{HartState}
@@ -163,7 +164,8 @@ returns-in-Asks-clause-settled g c =
     let turn = (taken_last c.harts_fit.ensures.others g.J.Opening.setting g.J.Opening.journal c.attend.new.state c.attend.new.keeper c.args.seat.now c.hear.new.seat c.attend.new.seat c.id_of-id.result c.args.hart.now.hart c.args.blocks.now c.attend.ensures.keeps c.requires.between c.hear.ensures.hears c.id_of-id.ensures (is_last (after c.args.keeper.now.events) c.args.hart.now.hart (c.requires.last (after c.args.keeper.now.events))).runs c.attend.ensures.attends c.act_last-acted.new.state c.act_last-acted.new.hart.hart c.args.blocks.now.spare c.act_last-acted.result.change c.act_last-acted.result.reply (subst (λ (x : HartState). Acts g.J.Opening.setting c.attend.new.state.events c.act_last-acted.new.state c.id_of-id.result x c.act_last-acted.new.hart.hart c.args.blocks.now.spare c.act_last-acted.result.change c.act_last-acted.result.reply) c.plan_turn.ensures.hart (c.act_last-acted.ensures.acts c.args.blocks.now.spare))) in
     let over = c.pass-entry.ensures c.args.hart.now.hart c.act_last-acted.new.hart.hart c.args.blocks.now.spare turn in
     inr (own_behind_settled g.J.Opening.setting c.args.seat.now.number c.args.keeper.now c.attend.new.keeper c.pass-entry.new.keeper (events_of turn.acts.did)
-    (subst (λ (x : KeeperView). SettlesAll x c.attend.new.keeper) c.hear.ensures.keeper c.attend.ensures.first) over.passed.events
+    (subst (λ (x : KeeperView). SettlesAll x c.attend.new.keeper) c.hear.ensures.keeper c.attend.ensures.first)
+    (subst (HasNoGrant (after c.attend.new.keeper.events)) c.id_of-id.ensures c.attend.ensures.attends.free) over.passed.events
     (subst (λ (n : ℕ). IsTurnOf g.J.Opening.setting c.attend.new.keeper.events n (events_of turn.acts.did)) c.id_of-id.ensures
     (IsTurnOf.by_move c.args.hart.now.hart c.act_last-acted.new.hart.hart turn.acts.did turn.fits turn.acts.moves))
     over.passed.opens)

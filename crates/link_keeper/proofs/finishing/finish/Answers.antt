@@ -5,9 +5,9 @@ use Rattle.word_rule.specs.declared.view.KeeperView.{KeeperView}
 use Rattle.kept_words.specs.Over.{IsOver}
 use Rattle.link_keeper.specs.Finishing.{RunIsOver, knows}
 use Rattle.link_keeper.specs.Keeping.{KeepsView}
-use Rattle.link_keeper.specs.Rounds.{AreRounds}
+use Rattle.link_keeper.specs.Rounds.{AreAllRounds, AreRounds}
 use Rattle.link_keeper.proofs.Finished.{alone, are_there, have_ended, joined_state, over}
-use Rattle.link_keeper.proofs.Left.{all_settled, last_round_more}
+use Rattle.link_keeper.proofs.Left.{all_rounds}
 use Rattle.link_keeper.proofs.Settled.{none_open}
 use Rattle.link_keeper.proofs.finishing.finish.Goals as goal
 
@@ -60,6 +60,5 @@ returns-clause-rounds g c =
     let before = subst (λ (k : KeeperView). AreRounds g.J.Opening.setting begun k.events k.opens) (sym c.join_all.ensures.joined) c.requires.rounds in
     let free = none_open g.J.Opening.setting begun c.settle_ended.new.state c.settle_ended.new.keeper c.settle_ended.ensures.keeps
     (c.accepted_object.ensures.machine g.J.Opening.setting.machine (ap (λ (m : Machine). m.verdict) c.requires.keeps.machine)) c.slots_stand.ensures.granted in
-    subst (λ (k : KeeperView). AreRounds g.J.Opening.setting begun k.events k.opens) (sym c.look_over.ensures.same)
-    (last_round_more g.J.Opening.setting begun c.join_all.new.keeper c.settle_ended.new.keeper before
-    (all_settled c.join_all.new.keeper c.settle_ended.new.keeper c.settle_ended.ensures.settled.settled free))
+    subst (λ (k : KeeperView). AreAllRounds g.J.Opening.setting begun k.events k.opens) (sym c.look_over.ensures.same)
+    (all_rounds g.J.Opening.setting begun c.join_all.new.keeper c.settle_ended.new.keeper before c.settle_ended.ensures.settled free)

@@ -2,6 +2,7 @@ use Rattle.std.proofs.Common.{ℕ, Some, length, sym, ap, subst, ◌∙◌}
 use Rattle.history_calls.specs.CallLaws.Coming.{IsOver}
 use Rattle.history_journal.specs.Following.{machine_of}
 use Rattle.history_state.specs.After.{after}
+use Rattle.history_state.specs.Slots.{HasNoGrant}
 use Rattle.hart_moves.specs.Lemmas.Legality.{turns_own}
 use Rattle.hart_moves.specs.Moves.{events_of}
 use Rattle.link_keeper.specs.Rounds.{IsTurnOf}
@@ -86,7 +87,8 @@ returns-clause-settled g c =
     c.id_of-id.ensures c.requires.asks c.attend.ensures.attends
     c.act-acted.new.state c.act-acted.new.hart.hart c.act-acted.new.blocks.spare c.act-acted.result.change c.act-acted.result.reply c.act-acted.ensures.acts in
     let over = c.pass-entry.ensures c.args.hart.now.hart c.act-acted.new.hart.hart c.act-acted.new.blocks.spare turn in
-    own_behind_settled g.J.Opening.setting c.args.seat.now.number c.args.keeper.now c.attend.new.keeper c.pass-entry.new.keeper (events_of turn.acts.did) c.attend.ensures.first over.passed.events
+    own_behind_settled g.J.Opening.setting c.args.seat.now.number c.args.keeper.now c.attend.new.keeper c.pass-entry.new.keeper (events_of turn.acts.did) c.attend.ensures.first
+    (subst (HasNoGrant (after c.attend.new.keeper.events)) c.id_of-id.ensures c.attend.ensures.attends.free) over.passed.events
     (subst (λ (n : ℕ). IsTurnOf g.J.Opening.setting c.attend.new.keeper.events n (events_of turn.acts.did)) c.id_of-id.ensures
     (IsTurnOf.by_move c.args.hart.now.hart c.act-acted.new.hart.hart turn.acts.did turn.fits turn.acts.moves))
     over.passed.opens

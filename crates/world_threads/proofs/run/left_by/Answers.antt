@@ -2,7 +2,7 @@ use Rattle.std.proofs.Common.{sym, ap, subst, ◌∙◌}
 use Rattle.history_event.specs.declared.journal.Journal.{Journal}
 use Rattle.kept_words.specs.Kept.{AreKept}
 use Rattle.kept_words.specs.Over.{IsOver}
-use Rattle.link_keeper.specs.Rounds.{AreRounds}
+use Rattle.link_keeper.specs.Rounds.{AreAllRounds}
 use Rattle.word_rule.specs.declared.view.KeeperView.{KeeperView}
 use Rattle.world_threads.proofs.Over.{threaded}
 use Rattle.world_threads.proofs.run.left_by.Goals as goal
@@ -32,4 +32,4 @@ returns-clause-threaded g c = λ setup started starts have.
     (ap (λ (k : KeeperView). k.joined) c.into_trails.ensures ∙ c.finish.ensures.joined)
     (subst (AreKept g.J.Opening.setting g.J.Opening.journal) (sym c.into_trails.ensures) c.finish.ensures.keeps.kept)
     (subst IsOver (sym c.into_trails.ensures) c.finish.ensures.known)
-    (subst (λ (k : KeeperView). AreRounds g.J.Opening.setting g.J.Opening.journal k.events k.opens) (sym c.into_trails.ensures) c.finish.ensures.rounds) starts
+    (subst (λ (k : KeeperView). AreAllRounds g.J.Opening.setting g.J.Opening.journal k.events k.opens) (sym c.into_trails.ensures) c.finish.ensures.rounds) starts
