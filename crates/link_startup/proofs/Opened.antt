@@ -1,5 +1,5 @@
 -- A run whose program is opened: what it has loaded, and how its harts start.
-use Rattle.std.proofs.Common.{◌≡◌, ◌≢◌, ℕ, suc, ◌+◌, ◌<◌, List, [], ◌∷◌, ◌++◌, map, length, false, Option, Some, get_or, refl, sym, ap, subst, ◌∙◌, arith}
+use Rattle.std.proofs.Common.{◌≡◌, ◌≢◌, ℕ, suc, ◌+◌, ◌<◌, List, [], ◌∷◌, ◌++◌, map, length, Option, Some, get_or, refl, sym, ap, subst, ◌∙◌, arith}
 use Rattle.std.specs.List.{slice_get}
 use Rattle.std.proofs.lemmas.Option.{slice_get-get_or}
 use Rattle.history_calls.specs.CallLaws.Laws.{AreNumberedFrom}
@@ -15,7 +15,7 @@ use Rattle.history_event.specs.declared.handed.Function.{Function}
 use Rattle.history_event.specs.declared.handed.HartEntry.{HartEntry}
 use Rattle.history_state.specs.After.{after, after_from}
 use Rattle.history_state.specs.Memory.{image_of}
-use Rattle.history_state.specs.Objects.{is_startup, serial_of}
+use Rattle.history_state.specs.Objects.{serial_of}
 use Rattle.history_state.specs.Read.{BeginsUntouched, IsUntouched}
 use Rattle.history_state.specs.Setting.{Setting}
 use Rattle.history_state.specs.State.{Linked, State}
@@ -50,11 +50,6 @@ untouched_opens hart root ask ranges begun =
 pub brings_some : (hart root : ℕ) (ask : OpenAsk) (added : List Loaded) (ranges : List Range) → BeginsUntouched (after (Open hart ask (Done 0 root added ranges) ∷ [])) → added ≢ []
 brings_some hart root ask [] ranges begun = λ none. untouched_opens hart root ask ranges begun
 brings_some hart root ask (o ∷ rest) ranges begun = λ none. absurd cc
-
-pub is_begun : (hart root : ℕ) (ask : OpenAsk) (added : List Loaded) (ranges : List Range) → added ≢ [] → is_startup (after (Open hart ask (Done 0 root added ranges) ∷ [])) ≡ false
-unfolding loaded after_from
-is_begun hart root ask [] ranges some = absurd (some refl)
-is_begun hart root ask (o ∷ rest) ranges some = refl
 
 -- ---- what has come of it
 
@@ -94,9 +89,6 @@ opened_events setup news old new hart ask none first asked is =
 module _ (setup : Setup) (news : NewObjects) (events : List Event) (are : events ≡ opening setup news.root news.added news.ranges ∷ []) where
   pub some_new : BeginsUntouched (after events) → news.added ≢ []
   some_new begun = brings_some 0 news.root (program_ask setup) news.added news.ranges (subst (λ (es : List Event). BeginsUntouched (after es)) are begun)
-
-  pub begun_now : news.added ≢ [] → is_startup (after events) ≡ false
-  begun_now some = ap (λ (es : List Event). is_startup (after es)) are ∙ is_begun 0 news.root (program_ask setup) news.added news.ranges some
 
   pub is_brought : (installs : Installs) → BeginsUntouched (after events) → AreNumberedFrom (after []).next news.added → ArePrepared (after events) news.added installs.images
       → CanReadAll news.added installs.images → IsBrought events installs

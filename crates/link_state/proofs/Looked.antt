@@ -1,6 +1,6 @@
 -- Look-ups of symbols.
-use Rattle.std.proofs.Common.{◌≡◌, ℕ, ◌+◌, ◌%◌, ◌^◌, Bool, false, List, [], ◌∷◌, ◌++◌, Some, None, refl, sym, ap, subst, ◌∙◌}
-use Rattle.std.specs.Prelude.{IsTrue, IsSome}
+use Rattle.std.proofs.Common.{◌≡◌, ℕ, ◌+◌, ◌%◌, ◌^◌, Bool, List, [], ◌∷◌, ◌++◌, Some, None, refl, sym, ap, subst, ◌∙◌}
+use Rattle.std.specs.Prelude.{IsSome}
 use Rattle.std.proofs.lemmas.List.{append_assoc}
 use Rattle.history_journal.specs.Following.{machine_of}
 use Rattle.history_event.specs.declared.event.Event.{Event}
@@ -9,15 +9,12 @@ use Rattle.history_event.specs.declared.event.SymAnswer.TheVariants.{Found}
 use Rattle.history_event.specs.declared.event.SymAsk.{SymAsk}
 use Rattle.history_state.specs.Accepted.{AcceptsOnly}
 use Rattle.history_state.specs.After.{after}
-use Rattle.history_state.specs.Lookup.{IsAddressBy, IsShort, MayAnswer, MayHaveBlock, SymbolsAreStored, is_storage_symbol, no_room, search}
+use Rattle.history_state.specs.Lookup.{IsAddressBy, MayAnswer, MayHaveBlock, SymbolsAreStored, no_room, search}
 use Rattle.history_state.specs.Legal.{Lawful}
-use Rattle.history_state.specs.Objects.{has_namespace}
-use Rattle.history_state.specs.Addresses.{address}
 use Rattle.history_state.specs.Setting.{Machine}
 use Rattle.history_state.specs.State.{State}
 use Rattle.history_state.specs.Step.{add_block}
 use Rattle.history_state.specs.Storage.{module_of, tls_block}
-use Rattle.ld_base.specs.declared.linking.Choice.TheVariants.{Def}
 use Rattle.history_calls.specs.Gives.{by_event, by_first_block, is_found}
 use Rattle.history_calls.specs.Served.{AreBlockInstalls, InstallsNothing, a_block, no_block}
 use Rattle.link_open_images.specs.NewBlocks.Laws.{HartsHaveNewBlocks}
@@ -30,17 +27,6 @@ use Rattle.link_state.specs.Table.{LinkTable}
 use Rattle.link_state.proofs.Stored.{none_there}
 
 -- ---- what may be answered
-
-pub plain : (s : State) (hart : ℕ) (ask : SymAsk) (serial index value : ℕ) → IsTrue (has_namespace s ask.ns) → IsShort ask → search s ask ≡ Some (Some (serial, index))
-    → is_storage_symbol s serial index ≡ false → value ≡ address s (Def serial index) → MayAnswer s hart ask (Found serial index value)
-plain s hart ask serial index value caller short found isnt is = (
-  caller,
-  record {
-    short = short;
-    found = found;
-    is = subst (λ (b : Bool). IsAddressBy b s hart serial index value) (sym isnt) is;
-  },
-)
 
 pub variable : (s : State) (hart : ℕ) (ask : SymAsk) (serial index offset block value : ℕ) → FindsVariable s ask serial index offset → tls_block s hart serial ≡ Some block
     → value ≡ (block + offset) % 2 ^ 64 → MayAnswer s hart ask (Found serial index value)

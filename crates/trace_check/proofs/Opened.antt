@@ -89,10 +89,6 @@ err_of P memory before (Ok b) is p = tt
 err_of P memory before (Err doubts.Memory) is p = memory
 err_of P memory before (Err (doubts.ReadFault path)) is p = subst (λ x. IfErr x P) (is path refl) p
 
-pub err_memory : {A : Type 0} (P : Doubt → Type 0) → P doubts.Memory → (r : Result A Doubt) → IfErr r (λ doubt. doubt ≡ doubts.Memory) → IfErr r P
-err_memory P memory (Ok a) is = tt
-err_memory P memory (Err doubt) is = subst P (sym is) memory
-
 pub doubted_in : (w : Setting) (past : List Event) (hart : ℕ) (ask : OpenAsk) (answer : OpenLine) (line : List ℕ) → HasLine line (lines.Open hart ask answer) → (doubt : Doubt)
     → MayFailSo w past hart ask doubt → IsDoubtOf w past line doubt
 doubted_in w past hart ask answer line has (doubts.ReadFault path) may = record { hart = hart; ask = ask; answer = answer; has = has; may = may }

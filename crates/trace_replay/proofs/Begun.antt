@@ -1,10 +1,10 @@
 -- The objects of an opening that are left to be initialised.
-use Rattle.std.proofs.Common.{◌≡◌, ⊎_elim, ℕ, Bool, true, false, not, List, [], ◌∷◌, ◌++◌, map, Option, Some, None, refl, sym, ap, subst, ◌∙◌}
+use Rattle.std.proofs.Common.{◌≡◌, ⊎_elim, ℕ, true, false, not, List, [], ◌∷◌, ◌++◌, map, Option, Some, None, refl, sym, ap, subst, ◌∙◌}
 use Rattle.std.specs.Prelude.{◌==◌}
 use Rattle.std.specs.List.{Contains, filter, flat_map}
 use Rattle.std.specs.Option.{option_map_or}
 use Rattle.std.proofs.lemmas.Bool.{eq-eqb, true≢false}
-use Rattle.std.proofs.lemmas.List.Elements.{Contains-append_cases, Contains-append_left, Contains-append_right, Contains-push}
+use Rattle.std.proofs.lemmas.List.Elements.{Contains-append_cases, Contains-append_right}
 use Rattle.history_calls.specs.CallLaws.Laws.{NewEdgesSuffice}
 use Rattle.history_calls.specs.Functions.{AreAddresses, AreConstructors, AreLeft, constructors, object_of}
 use Rattle.history_calls.specs.Laws.{OpeningBegins}
@@ -20,7 +20,7 @@ use Rattle.history_state.specs.Allowed.{Allowed}
 use Rattle.history_state.specs.Bound.{linked_with, uncopied, with_copies}
 use Rattle.history_state.specs.Legal.{Lawful}
 use Rattle.history_state.specs.Lemmas.History.{after_push}
-use Rattle.history_state.specs.Lemmas.Lists.{at_in, from_filter, from_map, in_filter, in_map, not_found}
+use Rattle.history_state.specs.Lemmas.Lists.{at_in, from_filter, from_map, in_map, not_found}
 use Rattle.history_state.specs.Lemmas.Tidy.{in_at}
 use Rattle.history_state.specs.Links.{found_edges}
 use Rattle.history_state.specs.Memory.{image_of}
@@ -35,13 +35,6 @@ of_loading serials d h = ⊎_elim
     (λ (a : Contains (filter (λ o. not (o == 1)) serials) d). (from_filter (λ o. not (o == 1)) serials d a).0)
     (λ (b : Contains (filter (λ o. o == 1) serials) d). (from_filter (λ o. o == 1) serials d b).0)
     (Contains-append_cases (filter (λ o. not (o == 1)) serials) (filter (λ o. o == 1) serials) d h)
-
-pub in_loading : (serials : List ℕ) (d : ℕ) → Contains serials d → Contains (program_last (Some 1) serials) d
-in_loading serials d h = by (d == 1) refl
-  where
-    by : (b : Bool) → (d == 1) ≡ b → Contains (filter (λ o. not (o == 1)) serials ++ filter (λ o. o == 1) serials) d
-    by true e = Contains-append_right (filter (λ o. not (o == 1)) serials) (filter (λ o. o == 1) serials) d (in_filter (λ o. o == 1) serials d h e)
-    by false e = Contains-append_left (filter (λ o. not (o == 1)) serials) (filter (λ o. o == 1) serials) d (in_filter (λ o. not (o == 1)) serials d h (ap not e))
 
 -- functions of these objects, of their images
 abbrev function_of : State → ℕ → Function
@@ -82,11 +75,6 @@ are_constructors s news order ordered imaged = record {
         by : (image : Option Linked) → (image ≡ None → ⊥) → AreAddresses constructors (option_map_or constructors image []) image
         by (Some m) some = refl
         by None some = absurd (some refl)
-
-pub loading_there : (s : State) (hart id root : ℕ) (ask : OpenAsk) (first : Loaded) (rest : List Loaded) (ranges : List Range)
-    → Contains (step s (event.Open hart ask (opens.Done id root (first ∷ rest) ranges))).loadings (record { hart = hart; serials = map serial_of (first ∷ rest) })
-unfolding loaded
-loading_there s hart id root ask first rest ranges = Contains-push s.loadings (record { hart = hart; serials = map serial_of (first ∷ rest) })
 
 module _ (suffices : NewEdgesSuffice) (begins : OpeningBegins) where
   pub begun : (m : Machine) (w : Setting) (past : List Event) (hart id root : ℕ) (ask : OpenAsk) (first : Loaded) (rest : List Loaded) (ranges : List Range) (order : List ℕ) → w.machine ≡ m

@@ -160,9 +160,6 @@ is_settled : (number : ℕ) (standing : Standing) (g : Granting) → g.number �
 is_settled number standing g is waits =
     ap (λ (t : Bool). cond (t && is_open g) (record g { standing = standing }) g) (eq-eqb g.number number is) ∙ ap (λ (t : Bool). cond t (record g { standing = standing }) g) waits
 
-of_slot : (owner slot o s : ℕ) → same_slot (owner, slot) (o, s) ≡ true → (eqb owner o && eqb slot s) ≡ true
-of_slot owner slot o s e = e
-
 bound_shut : (g : Granting) → g.standing ≡ standings.Bound → is_open g ≡ false
 bound_shut g e = ap is_open_standing e
 

@@ -100,9 +100,6 @@ head_harts l = (head_only l).harts
 pub step_keeps : (e : Event) (l : Lists) → (stepped e l).next ≡ l.next
 step_keeps e l = (keeps e l).next
 
-pub step_harts : (e : Event) (l : Lists) → (stepped e l).harts ≡ l.harts
-step_harts e l = (keeps e l).harts
-
 -- ---- taken in
 
 -- these lists show the history with the event, once the head is noted

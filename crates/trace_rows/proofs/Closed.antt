@@ -13,7 +13,6 @@ use Rattle.history_event.specs.declared.event.CloseAnswer.{CloseAnswer}
 use Rattle.history_event.specs.declared.event.CloseAnswer.TheVariants as answers
 use Rattle.history_event.specs.declared.event.Event.{Event}
 use Rattle.history_event.specs.declared.event.Event.TheVariants.{Close}
-use Rattle.history_event.specs.declared.state.Chosen.{Chosen}
 use Rattle.history_event.specs.declared.state.Granting.{Granting}
 use Rattle.history_graph.specs.declared.graph.Edge.{Edge}
 use Rattle.history_state.specs.After.{after}
@@ -21,13 +20,11 @@ use Rattle.history_state.specs.Allowed.{MayClose}
 use Rattle.history_state.specs.Grants.{chosen_target, is_open}
 use Rattle.history_state.specs.Laws.{HasAll, SerialsAreInOrder}
 use Rattle.history_state.specs.Legal.{Lawful}
-use Rattle.history_state.specs.Links.{bound_edges, chosen_edges, edges_to, held_edges}
+use Rattle.history_state.specs.Links.{edges_to, held_edges}
 use Rattle.history_state.specs.Objects.{startup_serials}
 use Rattle.history_state.specs.Setting.{Machine, Setting}
 use Rattle.history_state.specs.State.{State}
 use Rattle.ld_base.specs.declared.linking.Choice.{Choice}
-use Rattle.scope_rule.specs.declared.namespace.Namespace.{Namespace}
-use Rattle.trace_replay.specs.Heads.{serials_in}
 use Rattle.trace_replay.specs.Lists.{Lists}
 use Rattle.trace_replay.specs.Shown.{IsShown}
 use Rattle.trace_rows.specs.Closing.{choice_edges}
@@ -74,12 +71,6 @@ choices_are source [] = refl
 choices_are source (c ∷ rest) =
     ap (λ (es : List Edge). edges_to source (chosen_target c) ++ es) (choices_are source rest)
     ∙ sym (map-append (λ (d : ℕ). record { source = source; target = d }) (chosen_target c) (flat_map chosen_target rest))
-
-pub held_are : (s : State) (l : Lists) → IsShown s l → flat_map chosen_edges l.chosen ++ flat_map (bound_edges (serials_in l.namespaces)) l.grants ≡ held_edges s
-held_are s l x =
-    ap (λ (cs : List Chosen). flat_map chosen_edges cs ++ flat_map (bound_edges (serials_in l.namespaces)) l.grants) x.chosen
-    ∙ ap (λ (nss : List Namespace). flat_map chosen_edges s.chosen ++ flat_map (bound_edges (serials_in nss)) l.grants) x.namespaces
-    ∙ ap (λ (gs : List Granting). flat_map chosen_edges s.chosen ++ flat_map (bound_edges (serials_in s.namespaces)) gs) x.grants
 
 pub graph_is : (s : State) (l : Lists) (held : List Edge) (fixed : List ℕ) (granted : List Granting) → IsShown s l → SerialsAreInOrder s → held ≡ held_edges s → fixed ≡ l.startup ++ l.pinned
     → granted ≡ filter is_open l.grants → IsGraphOf s held fixed granted

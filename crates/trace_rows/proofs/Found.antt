@@ -1,27 +1,26 @@
 -- Look-ups of symbols.
-use Rattle.std.proofs.Common.{Bor, ◌≡◌, ℕ, ◌+◌, ◌<◌, ◌≤◌, ◌&&◌, ◌%◌, ◌^◌, Bool, true, false, List, length, Option, Some, None, refl, sym, ap, subst, ◌∙◌, arith}
+use Rattle.std.proofs.Common.{Bor, ◌≡◌, ℕ, ◌<◌, ◌&&◌, Bool, true, false, List, length, Option, Some, None, refl, sym, ap, subst, ◌∙◌}
 use Rattle.std.specs.Bool.{Decides}
 use Rattle.std.specs.Prelude.{IsTrue}
 use Rattle.std.specs.List.{find, list_any}
 use Rattle.std.specs.Option.{is_some, option_copied}
-use Rattle.std.proofs.lemmas.Bool.{and_from, and_parts, le-leb, lt-leb, true≢false}
+use Rattle.std.proofs.lemmas.Bool.{and_from, and_parts, lt-leb, true≢false}
 use Rattle.address_space.specs.Pages.{Fits}
-use Rattle.history_calls.specs.Lemmas.Unique.{block_or_none, both_found, found_or_refused, long_or_short, no_search, not_both, not_yet, same_found, same_refusal, same_symbol, has_found}
+use Rattle.history_calls.specs.Lemmas.Unique.{block_or_none, found_or_refused, long_or_short, no_search, not_both, not_yet, same_found, same_refusal, same_symbol, has_found}
 use Rattle.history_event.specs.declared.event.SymAnswer.{SymAnswer}
 use Rattle.history_event.specs.declared.event.SymAnswer.TheVariants as syms
 use Rattle.history_event.specs.declared.event.SymAsk.{SymAsk}
 use Rattle.history_state.specs.Addresses.{address}
 use Rattle.history_state.specs.Areas.{free_pages}
 use Rattle.history_state.specs.Asking.{is_too_long}
-use Rattle.history_state.specs.Lookup.{HasNoBlock, HasStorage, IsAddressBy, IsShort, IsTooLong, MayAnswer, MayHaveBlock, RefusesSymbol, SearchAnswers, SymbolsAreStored, WantsBlock, is_storage_symbol, is_version_long, search}
-use Rattle.history_state.specs.Lookup.IsTooLong.{name as long_name, version as long_version}
+use Rattle.history_state.specs.Lookup.{HasNoBlock, HasStorage, IsTooLong, MayAnswer, MayHaveBlock, RefusesSymbol, SearchAnswers, SymbolsAreStored, WantsBlock, search}
+use Rattle.history_state.specs.Lookup.IsTooLong.{version as long_version}
 use Rattle.history_state.specs.Lookup.RefusesSymbol.{name_too_long, bad_handle, missing, no_room}
 use Rattle.history_state.specs.Objects.{has_id, has_namespace}
 use Rattle.history_state.specs.State.{State}
 use Rattle.history_state.specs.Storage.{block_align, block_pages, tls_block}
 use Rattle.ld_base.specs.declared.fault.DlFault.{DlFault}
 use Rattle.ld_base.specs.declared.fault.DlFault.TheVariants.{AddressSpaceFull}
-use Rattle.ld_base.specs.declared.linking.Choice.TheVariants.{Def}
 use Rattle.ld_base.specs.declared.object.TlsSeg.{TlsSeg}
 use Rattle.link_search.specs.Finding.{IsSymFault}
 use Rattle.link_search.specs.declared.finding.SymFault.{SymFault}
@@ -31,7 +30,7 @@ use Rattle.trace_replay.specs.Lists.{Lists}
 use Rattle.trace_replay.specs.Shown.{IsShown}
 use Rattle.trace_replay.specs.Steps.{storage_in}
 use Rattle.trace_rows.specs.Blocks.{HasNoRoom, StandsAt}
-use Rattle.trace_rows.specs.Looking.{ComesOfLooking, Finds, FindsVariable, IsOfLength, IsRefusalFor}
+use Rattle.trace_rows.specs.Looking.{ComesOfLooking, FindsVariable, IsOfLength, IsRefusalFor}
 use Rattle.trace_rows.specs.declared.rows.looking.Length.TheVariants as lengths
 use Rattle.trace_rows.proofs.Stored.{any_is, may_have, segment_of, wants}
 
@@ -73,38 +72,6 @@ answers_so s hart ask found answer there is has comes decides = (
 not_long : (bytes : List ℕ) → length bytes < 256 → is_too_long bytes ≡ false
 not_long bytes less = lt-leb 256 (length bytes) less
 
-long_so : (bytes : List ℕ) → 256 ≤ length bytes → is_too_long bytes ≡ true
-long_so bytes more = le-leb 256 (length bytes) more
-
--- a name that is longer, or as long beside a version
-pub neither_name : (ask : SymAsk) → 256 ≤ length ask.name → (length ask.name ≡ 256 → ask.version ≡ None → ⊥) → IsOfLength ask lengths.Overlong
-neither_name ask more other = (
-  (λ short. true≢false (sym (long_so ask.name more) ∙ short.name)),
-  (λ long. by long),
-)
-  where
-    by : IsTooLong ask → ⊥
-    by (long_name is none) = other is none
-    by (long_version name text is long) = true≢false (sym (long_so ask.name more) ∙ name)
-
-pub neither_version : (ask : SymAsk) (text : List ℕ) → ask.version ≡ Some text → 256 < length text → IsOfLength ask lengths.Overlong
-neither_version ask text is more = (
-  (λ short. true≢false (sym (long_so text (omega (arith, more))) ∙ subst (λ v. is_version_long v ≡ false) is short.version)),
-  (λ long. by long),
-)
-  where
-    by : IsTooLong ask → ⊥
-    by (long_name at none) = not_both ask.version text none is
-    by (long_version name other also long) =
-        let same : other ≡ text = both_found ask.version other text also is in
-        omega (arith, long, ap (λ (bs : List ℕ). length bs) same, more)
-
-pub short_alone : (ask : SymAsk) → length ask.name < 256 → ask.version ≡ None → IsShort ask
-short_alone ask less none = record { name = not_long ask.name less; version = ap is_version_long none }
-
-pub short_with : (ask : SymAsk) (text : List ℕ) → length ask.name < 256 → ask.version ≡ Some text → length text < 256 → IsShort ask
-short_with ask text less is few = record { name = not_long ask.name less; version = ap is_version_long is ∙ not_long text few }
-
 pub long_with : (ask : SymAsk) (text : List ℕ) → length ask.name < 256 → ask.version ≡ Some text → length text ≡ 256 → IsTooLong ask
 long_with ask text less is long = long_version (not_long ask.name less) text is long
 
@@ -124,24 +91,6 @@ never s hart ask neither (syms.Refused fault) gives = refused fault gives
 pub refused_so : (s : State) (hart : ℕ) (ask : SymAsk) (why : SymFault) (found : Option SymAnswer) → IsRefusalFor why found → IsSymFault s hart ask why → ComesOfLooking s hart ask found
 refused_so s hart ask (faults.Refused fault) found is gives = subst (ComesOfLooking s hart ask) (sym is) gives
 refused_so s hart ask faults.Memory found is gives = absurd is
-
--- ---- definitions
-
-pub plain_found : (s : State) (hart : ℕ) (ask : SymAsk) (serial index value : ℕ) → Finds s ask serial index → is_storage_symbol s serial index ≡ false → value ≡ address s (Def serial index)
-    → ComesOfLooking s hart ask (Some (syms.Found serial index value))
-plain_found s hart ask serial index value finds isnt is = record {
-  short = finds.short;
-  found = finds.found;
-  is = subst (λ (b : Bool). IsAddressBy b s hart serial index value) (sym isnt) is;
-}
-
-pub variable_found : (s : State) (hart : ℕ) (ask : SymAsk) (serial index offset block value : ℕ) → FindsVariable s ask serial index offset → Some block ≡ tls_block s hart serial
-    → value ≡ (block + offset) % 2 ^ 64 → ComesOfLooking s hart ask (Some (syms.Found serial index value))
-variable_found s hart ask serial index offset block value finds has is = record {
-  short = finds.finds.short;
-  found = finds.finds.found;
-  is = subst (λ (b : Bool). IsAddressBy b s hart serial index value) (sym finds.storage) (block, sym has, is ∙ ap (λ n. (block + n) % 2 ^ 64) finds.is);
-}
 
 -- ---- no block yet
 

@@ -1,9 +1,9 @@
 -- Whether a history is whole.
-use Rattle.std.proofs.Common.{◌≡◌, ◌≢◌, ◌⊎◌, inl, inr, ⊎_elim, ℕ, ◌&&◌, ◌||◌, Bool, true, false, not, eqb, List, [], ◌∷◌, length, map, reverse, Option, Some, cond, refl, sym, ap, subst, ◌∙◌, arith, take, ◌<◌, ◌≤◌, ◌+◌, ◌++◌, get_or}
+use Rattle.std.proofs.Common.{◌≡◌, ◌≢◌, ◌⊎◌, inl, inr, ⊎_elim, ℕ, ◌&&◌, ◌||◌, Bool, true, false, not, eqb, List, [], ◌∷◌, length, map, reverse, Option, Some, cond, refl, sym, ap, subst, ◌∙◌, arith, take, ◌<◌, ◌+◌, ◌++◌, get_or}
 use Rattle.std.specs.Bool.{Decides}
 use Rattle.std.specs.List.{Contains, filter, list_any}
 use Rattle.std.proofs.lemmas.Bool.{cases_Bool, eq-eqb, eqb-true, true≢false}
-use Rattle.std.proofs.lemmas.List.{take_all, take_more}
+use Rattle.std.proofs.lemmas.List.{take_more}
 use Rattle.std.proofs.lemmas.List.Elements.{Contains-push_cases}
 use Rattle.std.proofs.lemmas.Bool.Decides.{Decides-and, Decides-like, Decides-not, Decides-or}
 use Rattle.history_event.specs.declared.state.Granting.{Granting}
@@ -12,7 +12,7 @@ use Rattle.history_graph.specs.Initialised.{is_one_of}
 use Rattle.history_state.specs.Grants.{is_open, is_open_standing}
 use Rattle.history_state.specs.Laws.{GrantsAreTidy}
 use Rattle.history_state.specs.Legal.{IsWhole, Settled}
-use Rattle.history_state.specs.Lemmas.Lists.{any_reverse, from_filter, here, in_filter, none_in}
+use Rattle.history_state.specs.Lemmas.Lists.{any_reverse, from_filter, here, in_filter}
 use Rattle.history_state.specs.Links.{finis_of, unfinished}
 use Rattle.history_state.specs.Objects.{IsMapped, mapped, serial_of}
 use Rattle.history_state.specs.Setting.{Setting, are_finals}
@@ -78,10 +78,6 @@ AllSettled l grants = (s : State) (g : Granting) → IsShown s l → GrantsAreTi
 abbrev pub SettledAs : Lists → Granting → Bool → Type 0
 SettledAs l g b = (s : State) → IsShown s l → GrantsAreTidy s → Decides b (IsSettled s g)
 
-pub settled_none : (l : Lists) (xs : List Granting) → AllSettled l (take 0 xs)
-settled_none l [] s g x tidy inside = absurd (none_in g inside)
-settled_none l (y ∷ ys) s g x tidy inside = absurd (none_in g inside)
-
 pub settled_more : (l : Lists) (xs : List Granting) (k : ℕ) (y : Granting) (b : Bool) → k < length xs → y ≡ get_or xs k y → AllSettled l (take k xs) → SettledAs l y b → b ≡ true
     → AllSettled l (take (k + 1) xs)
 settled_more l xs k y b less is before one yes_so s g x tidy inside =
@@ -90,22 +86,6 @@ settled_more l xs k y b less is before one yes_so s g x tidy inside =
     (λ (old : Contains (take k xs) g). before s g x tidy old)
     (λ (new : y ≡ g). subst (IsSettled s) new ((one s x tidy).0 yes_so))
     (Contains-push_cases (take k xs) y g (subst (λ (ys : List Granting). Contains ys g) are inside))
-
-pub unsettled_so : (s : State) (l : Lists) (xs : List Granting) (k : ℕ) (y : Granting) (b : Bool) → IsShown s l → GrantsAreTidy s → xs ≡ l.grants → k < length xs → y ≡ get_or xs k y
-    → SettledAs l y b → b ≡ false → Decides false ((g : Granting) → Contains s.grants g → IsSettled s g)
-unsettled_so s l xs k y b x tidy same less is one no_so = (
-  (λ e. absurd (true≢false (sym e))),
-  (λ settled.
-      let inside : Contains s.grants y = subst (λ (gs : List Granting). Contains gs y) (same ∙ x.grants) (k, less, sym is) in
-      absurd (true≢false (sym ((one s x tidy).1 (settled y inside)) ∙ no_so))),
-)
-
-pub settled_all : (s : State) (l : Lists) (xs : List Granting) (k : ℕ) → IsShown s l → GrantsAreTidy s → xs ≡ l.grants → length xs ≤ k → AllSettled l (take k xs)
-    → Decides true ((g : Granting) → Contains s.grants g → IsSettled s g)
-settled_all s l xs k x tidy same more before = (
-  (λ e g inside. before s g x tidy (subst (λ (gs : List Granting). Contains gs g) (sym (take_all k xs more ∙ same ∙ x.grants)) inside)),
-  (λ settled. refl),
-)
 
 -- ---- finalised
 

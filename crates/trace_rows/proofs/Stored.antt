@@ -1,42 +1,26 @@
 -- Blocks of thread-local storage.
-use Rattle.std.proofs.Common.{◌≡◌, ℕ, ◌+◌, ◌&&◌, ◌||◌, Bool, true, false, not, eqb, List, [], ◌∷◌, Option, Some, None, cond, refl, sym, ap, subst, ◌∙◌}
+use Rattle.std.proofs.Common.{◌≡◌, ℕ, ◌&&◌, ◌||◌, Bool, true, false, not, eqb, List, [], ◌∷◌, Option, Some, None, cond, refl, sym, ap, subst, ◌∙◌}
 use Rattle.std.specs.Bool.{Decides}
 use Rattle.std.specs.Prelude.{IsSome}
 use Rattle.std.specs.List.{find, list_any}
 use Rattle.std.specs.Option.{is_some, option_and_then}
-use Rattle.std.proofs.lemmas.Bool.{eq-eqb, eqb-true, true≢false}
 use Rattle.std.proofs.lemmas.Bool.Decides.{Decides-and, Decides-like}
 use Rattle.address_space.specs.Pages.{IsFirstFit}
-use Rattle.history_calls.specs.Lemmas.Unique.{both_found, not_both, same_fit}
 use Rattle.history_event.specs.declared.event.Range.{Range}
 use Rattle.history_event.specs.declared.state.Module.{Module}
 use Rattle.history_state.specs.Areas.{free_pages}
 use Rattle.history_state.specs.Lookup.{MayHaveBlock, WantsBlock}
 use Rattle.history_state.specs.Objects.{object_at}
-use Rattle.history_state.specs.State.{State, Statics}
-use Rattle.history_state.specs.Storage.{block_align, block_pages, module_of, residue, tls_block}
+use Rattle.history_state.specs.State.{State}
+use Rattle.history_state.specs.Storage.{block_align, block_pages, module_of, tls_block}
 use Rattle.ld_base.specs.declared.linking.Loaded.{Loaded}
 use Rattle.ld_base.specs.declared.object.TlsSeg.{TlsSeg}
-use Rattle.link_lists.specs.LateBlocksPart.Blocks.{BlockList}
-use Rattle.link_search.specs.Blocks.{ShowsBlocks}
 use Rattle.scope_rule.specs.declared.namespace.Namespace.{Namespace}
-use Rattle.tls_blocks.specs.Numbers.{ModuleTable}
 use Rattle.trace_replay.specs.Lists.{Lists}
 use Rattle.trace_replay.specs.Shown.{IsShown}
 use Rattle.trace_replay.specs.Steps.{storage_in}
-use Rattle.trace_rows.specs.Blocks.{HasNoRoom, IsPlaced, StandsAt}
+use Rattle.trace_rows.specs.Blocks.{IsPlaced, StandsAt}
 use Rattle.trace_rows.proofs.Unmapped.{lacks_so}
-
--- ---- blocks that are there
-
-pub shows_blocks : (s : State) (l : Lists) (ranges : List Range) (table : ModuleTable) (late : BlockList) → IsShown s l → ranges ≡ l.ranges → table.modules ≡ l.modules
-    → table.tp ≡ l.statics.tp → late.blocks ≡ l.blocks → ShowsBlocks s ranges table late
-shows_blocks s l ranges table late x pages modules tp blocks = record {
-  ranges = sym (pages ∙ x.ranges);
-  modules = sym (modules ∙ x.modules);
-  tp = sym (tp ∙ ap (λ (st : Statics). st.tp) x.statics);
-  blocks = sym (blocks ∙ x.blocks);
-}
 
 -- ---- modules
 
@@ -55,28 +39,6 @@ module_so s l serial x =
     ((λ e. sym is ∙ e), (λ e. is ∙ e))
 
 -- ---- new blocks
-
-pub stands_so : (free : List ℕ) (seg : TlsSeg) (start address : ℕ) → StandsAt free seg start → Decides (eqb start address) (StandsAt free seg address)
-stands_so free seg start address x = (
-  (λ e. subst (StandsAt free seg) (eqb-true start address e) x),
-  (λ y.
-      eq-eqb start address
-      (x.is ∙ ap (λ (n : ℕ). n + residue seg) (same_fit free (block_pages seg) (block_align seg) x.pages y.pages x.first y.first) ∙ sym y.is)),
-)
-
-pub stands_nowhere : (free : List ℕ) (seg : TlsSeg) (address count : ℕ) → HasNoRoom free seg count → Decides false (StandsAt free seg address)
-stands_nowhere free seg address count none = ((λ e. absurd (true≢false (sym e))), (λ y. absurd (none.none y.pages y.first.fits)))
-
-pub placed_so : (l : Lists) (serial address : ℕ) (seg : TlsSeg) (b : Bool) → Some seg ≡ storage_in l.namespaces serial → Decides b (StandsAt (free_pages l.ranges) seg address)
-    → Decides b (IsPlaced l serial address)
-placed_so l serial address seg b is stands =
-    Decides-like b
-    (λ (x : StandsAt (free_pages l.ranges) seg address). record { seg = seg; of = sym is; stands = x })
-    (λ (p : IsPlaced l serial address). subst (λ (g : TlsSeg). StandsAt (free_pages l.ranges) g address) (both_found (storage_in l.namespaces serial) p.seg seg p.of (sym is)) p.stands)
-    stands
-
-pub placed_nowhere : (l : Lists) (serial address : ℕ) → None ≡ storage_in l.namespaces serial → Decides false (IsPlaced l serial address)
-placed_nowhere l serial address none = ((λ e. absurd (true≢false (sym e))), (λ p. absurd (not_both (storage_in l.namespaces serial) p.seg (sym none) p.of)))
 
 record IsStored (s : State) (serial : ℕ) (seg : TlsSeg) : Type 0 where
   object : Loaded

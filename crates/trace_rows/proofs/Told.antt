@@ -1,32 +1,18 @@
 -- What harts write and are told, and how they end.
-use Rattle.std.proofs.Common.{◌≡◌, ℕ, ◌&&◌, ◌||◌, Bool, not, eqb, List, [], ◌∷◌, length, map, refl, sym, ap, subst, ◌∙◌}
+use Rattle.std.proofs.Common.{◌≡◌, ℕ, ◌&&◌, ◌||◌, Bool, not, eqb, List, [], ◌∷◌, map, refl, sym, ap, subst, ◌∙◌}
 use Rattle.std.specs.Bool.{Decides}
 use Rattle.std.specs.List.{list_any}
 use Rattle.std.proofs.lemmas.Bool.{not-true}
 use Rattle.std.proofs.lemmas.Bool.Decides.{Decides-and, Decides-eqb, Decides-like, Decides-or}
 use Rattle.history_event.specs.declared.state.Ending.{Ending}
-use Rattle.history_event.specs.declared.state.Kept.{Kept}
-use Rattle.history_journal.specs.Following.{machine_of}
-use Rattle.history_journal.specs.LinkHarts.Kept.{fault_of}
-use Rattle.history_state.specs.Allowed.{MayEnd, kept_for}
+use Rattle.history_state.specs.Allowed.{MayEnd}
 use Rattle.history_state.specs.Objects.{has}
-use Rattle.history_state.specs.Setting.{Machine, Setting, are_finals}
+use Rattle.history_state.specs.Setting.{Setting, are_finals}
 use Rattle.history_state.specs.State.{State}
-use Rattle.trace_replay.specs.Heads.{exits_by}
 use Rattle.trace_replay.specs.Lists.{Lists}
 use Rattle.trace_replay.specs.Shown.{IsShown}
 
--- ---- refusals
-
-pub kept_is : (s : State) (l : Lists) (hart : ℕ) → IsShown s l → fault_of hart l.kept ≡ kept_for s hart
-kept_is s l hart x = ap (λ (ks : List Kept). fault_of hart ks) x.kept
-
 -- ---- ends
-
-pub finals_are : (w : Setting) (s : State) (harts : ℕ) (endings : List Ending) → w.machine ≡ machine_of harts → s.endings ≡ endings
-    → (eqb (length endings) harts && exits_by harts endings) ≡ are_finals w s
-finals_are w s harts endings same are =
-    ap (λ (es : List Ending). eqb (length es) harts && exits_by harts es) (sym are) ∙ ap (λ (m : Machine). eqb (length s.endings) m.harts && exits_by m.harts s.endings) (sym same)
 
 has_map : (endings : List Ending) (hart : ℕ) → list_any (λ (e : Ending). eqb e.hart hart) endings ≡ has (map (λ (e : Ending). e.hart) endings) hart
 has_map [] hart = refl

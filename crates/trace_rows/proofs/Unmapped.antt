@@ -79,9 +79,6 @@ touches set g e = ⊎_elim
     (λ (some : list_any (has set) (target_of g.choice) ≡ true). let at = any_in (has set) (target_of g.choice) some in (at.0, has_in set at.0 at.2, inr at.1))
     ((Decides-or (has set g.owner) (list_any (has set) (target_of g.choice)) ((λ t. t), (λ t. t)) ((λ t. t), (λ t. t))).0 e)
 
-abbrev pub FreeLaw : Type 0
-FreeLaw = (s : State) (set : List ℕ) → find (is_touching set) (filter is_open s.grants) ≡ None → IsUngranted s set
-
 free_so : (s : State) (l : Lists) (set : List ℕ) (holder : Option ℕ) (none : Bool) → IsShown s l → (find (is_touching set) (filter is_open s.grants) ≡ None → IsUngranted s set)
     → holder ≡ option_map (λ (g : Granting). g.number) (find (is_touching set) (filter is_open l.grants)) → is_some holder ≡ not none → Decides none (IsUngranted s set)
 free_so s l set holder none x law is lacks =

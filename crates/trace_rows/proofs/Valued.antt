@@ -6,26 +6,20 @@ use Rattle.std.specs.Option.{is_some}
 use Rattle.std.proofs.lemmas.Bool.{and_from, and_parts, eq-eqb, eqb-true, ne_eqb, not-true, true≢false}
 use Rattle.std.proofs.lemmas.Bool.Decides.{Decides-like, Decides-or}
 use Rattle.history_calls.specs.Lemmas.Unique.{both_found, not_both}
-use Rattle.history_event.specs.declared.event.Event.{Event}
 use Rattle.history_event.specs.declared.state.Granting.{Granting}
 use Rattle.history_event.specs.declared.state.Standing.{Standing}
 use Rattle.history_event.specs.declared.state.Standing.TheVariants as standings
-use Rattle.history_state.specs.After.{after}
 use Rattle.history_state.specs.Grants.{is_of, is_open, is_open_standing}
 use Rattle.history_state.specs.Laws.{GrantsAreTidy}
-use Rattle.history_state.specs.Legal.{Lawful, Settled}
+use Rattle.history_state.specs.Legal.{Settled}
 use Rattle.history_state.specs.Lemmas.Lists.{any_in, found_in, from_filter, in_any, in_filter, not_found}
 use Rattle.history_state.specs.Lemmas.Tidy.{Tidy, one_number}
-use Rattle.history_state.specs.Setting.{Machine}
 use Rattle.history_state.specs.Slots.{HasBound, IsOpenGrant, IsOthers, MayBind, MayLose, value_at_load}
 use Rattle.history_state.specs.State.{State}
-use Rattle.trace_replay.specs.Granted.{IsBoundTo, HasNoBound, is_numbered}
+use Rattle.trace_replay.specs.Granted.{is_numbered}
 use Rattle.trace_replay.specs.Lists.{Lists}
 use Rattle.trace_replay.specs.Shown.{IsShown}
 use Rattle.trace_rows.specs.Grants.{HasValue, IsBound, IsValueOf, is_other}
-
-abbrev pub TidyLaw : Type 0
-TidyLaw = (m : Machine) (events : List Event) → Lawful m events → GrantsAreTidy (after events)
 
 -- ---- one slot
 
@@ -72,21 +66,6 @@ value_none : (s : State) (owner slot : ℕ) (value : Option ℕ) → IsValueOf s
 value_none s owner slot (Some u) (inl is) lazy first = absurd (not_both (value_at_load s owner slot) u lazy is)
 value_none s owner slot (Some u) (inr b) lazy first = absurd (first (record { grant = b.grant; there = b.there; of = b.of; bound = b.bound }))
 value_none s owner slot None none lazy first = refl
-
--- ---- a slot's value in the lists
-
-pub at_load_is : (s : State) (l : Lists) (owner slot value : ℕ) → IsShown s l → ((t : State) → t.chosen ≡ l.chosen → Some value ≡ value_at_load t owner slot) → IsValueOf s owner slot (Some value)
-at_load_is s l owner slot value x is = inl (sym (is s (sym x.chosen)))
-
-pub bound_is : (s : State) (l : Lists) (owner slot : ℕ) (g : Granting) → IsShown s l → IsBoundTo l.grants owner slot g → IsValueOf s owner slot (Some g.value)
-bound_is s l owner slot g x b = inr (record { grant = g; there = subst (λ (gs : List Granting). Contains gs g) x.grants b.there; of = b.of; bound = b.bound; is = refl })
-
-pub no_value_is : (s : State) (l : Lists) (owner slot : ℕ) → IsShown s l → ((t : State) → t.chosen ≡ l.chosen → None ≡ value_at_load t owner slot) → HasNoBound l.grants owner slot
-    → IsValueOf s owner slot None
-no_value_is s l owner slot x is none = record {
-  at_load = sym (is s (sym x.chosen));
-  unbound = λ has. none has.grant (subst (λ (gs : List Granting). Contains gs has.grant) (sym x.grants) has.there) has.of has.bound;
-}
 
 -- ---- an open grant
 

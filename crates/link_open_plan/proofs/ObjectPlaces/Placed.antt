@@ -6,12 +6,12 @@ use Rattle.ld_base.specs.declared.linking.Loaded.{Loaded}
 use Rattle.history_event.specs.declared.event.Range.{Range}
 use Rattle.history_event.specs.declared.state.Module.{Module}
 use Rattle.history_state.specs.Accepted.{IsAccepted}
-use Rattle.history_state.specs.Areas.{Area, AreBased, AreGiven, LacksRoom}
+use Rattle.history_state.specs.Areas.{Area, AreBased, AreGiven}
 use Rattle.history_state.specs.Opening.{unplaced}
 use Rattle.history_state.specs.State.{Statics}
 use Rattle.history_state.specs.Storage.{HaveModules, statics_with, with_modules}
 use Rattle.tls_blocks.specs.Numbers.{ModuleTable}
-use Rattle.link_open_plan.specs.ObjectPlaces.Placing.{HavePlaces, LackPages, areas_by, statics_of, unbased}
+use Rattle.link_open_plan.specs.ObjectPlaces.Placing.{HavePlaces, areas_by, statics_of, unbased}
 use Rattle.link_open_plan.proofs.ObjectPlaces.Given.{given_count}
 use Rattle.link_open_plan.proofs.ObjectPlaces.Moduled.{areas_alike, areas_of, enough_areas, have_alike, modules_alike}
 use Rattle.link_open_plan.proofs.ObjectPlaces.Same.{same_in}
@@ -64,6 +64,3 @@ module _ (free : List ℕ) (table copy new : ModuleTable) (harts : Option ℕ) (
     given = subst (λ (xs : List Area). AreGiven free xs ranges left) (areas wanted wants ∙ areas_alike based given same harts (statics_of table)) gives;
     based = bases;
   }
-
-  pub lack_pages : (wanted : List Area) (pages : ℕ) → wanted ≡ areas_by harts (statics_of new) given → LacksRoom free wanted pages → LackPages free table harts given pages
-  lack_pages wanted pages wants lacks = record { storage = storage; lacks = subst (λ (xs : List Area). LacksRoom free xs pages) (areas wanted wants) lacks }

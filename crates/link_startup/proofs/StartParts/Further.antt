@@ -178,18 +178,6 @@ none_yet past starts e = record {
 }
 
 module _ (past : List Event) (names : List (List ℕ)) (starts : List ℕ) (events : List Event) (all : FoundAll past names starts events) where
-  pub loaded_still : HasLoaded past → HasLoaded events
-  loaded_still loaded = record {
-    hart = loaded.hart;
-    ask = loaded.ask;
-    root = loaded.root;
-    added = loaded.added;
-    ranges = loaded.ranges;
-    found = loaded.found ++ all.further.found;
-    are = all.further.are ∙ ap (λ (es : List Event). es ++ all.further.found) loaded.are;
-    same = all.same ∙ loaded.same;
-  }
-
   pub found_next : (hart : ℕ) (name : List ℕ) (value : ℕ) (more : List Event) → hart ≡ 1 + length names → StartsAt events hart name value more
       → FoundAll past (names ++ name ∷ []) (starts ++ value ∷ []) more
   found_next hart name value more number next =

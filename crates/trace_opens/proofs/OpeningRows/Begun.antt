@@ -44,12 +44,6 @@ module _ (s : State) (k : List Kept) (e : List Ending) where
   abbrev other : State
   other = record s { kept = k; endings = e }
 
-  same_code : (lazy : ℕ) (c : Choice) → leads_to_code other lazy c ≡ leads_to_code s lazy c
-  unfolding leads_to_code is_code_of address
-  same_code lazy (Def serial index) = refl
-  same_code lazy WeakZero = refl
-  same_code lazy Missing = refl
-
   same_binding : (r : Reloc) (c : Choice) → binding_of other r c ≡ binding_of s r c
   unfolding address
   same_binding r (Def serial index) = refl

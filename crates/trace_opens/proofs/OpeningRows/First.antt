@@ -1,6 +1,6 @@
 -- Startup's opening, over the lists of a history in which nothing was loaded.
-use Rattle.std.proofs.Common.{◌≡◌, ◌⊎◌, inl, inr, ⊎_elim, ℕ, Bool, List, [], Option, Some, None, refl, sym, ap, subst, ◌∙◌}
-use Rattle.std.specs.Prelude.{IfSome, IsTrue, if◌then◌else◌, ◌==◌}
+use Rattle.std.proofs.Common.{◌≡◌, ◌⊎◌, inl, inr, ⊎_elim, ℕ, List, [], Option, Some, None, refl, sym, ap, subst, ◌∙◌}
+use Rattle.std.specs.Prelude.{IfSome, IsTrue}
 use Rattle.ld_base.specs.declared.fault.DlFault.TheVariants as faults
 use Rattle.ld_base.specs.declared.linking.Choice.{Choice}
 use Rattle.ld_base.specs.declared.linking.File.{File}
@@ -100,9 +100,6 @@ module _ (law : StartupNeedsNoPast) (m : Machine) (w : Setting) (past : List Eve
   may_ask hart ask opens.Absent x = x.may begins
   may_ask hart ask (opens.Refused fault) x = x.may begins
 
-  pub expects_no_other : (hart : ℕ) (ask : OpenAsk) (line : OpenLine) → (IsStartupAsk hart ask → ⊥) → IsExpectedOpening w past hart ask line None
-  expects_no_other hart ask line other = record { may = tt; only = inl (λ answer said allowed. absurd (other (may_ask hart ask answer allowed))) }
-
 -- what the program's plan gives
 module _ (one : OneOpening) (w : Setting) (setup : Setup) (line : OpenLine) (read : failed_path line ≡ None) where
   pub first_plan : (n : NewObjects) → PlansNew w (after []) 0 (program_ask setup) setup.program 0 n → IsExpectedFirst w (program_ask setup) line (Some (brought 0 (program_ask setup) 0 n))
@@ -110,14 +107,3 @@ module _ (one : OneOpening) (w : Setting) (setup : Setup) (line : OpenLine) (rea
 
   pub first_none : (why : Unopened) → IsCertain why → IsUnopened w (after []) 0 (program_ask setup) why → IsExpectedFirst w (program_ask setup) line (unplanned 0 (program_ask setup) why)
   first_none why certain is = expects_none w [] 0 (program_ask setup) setup.program 0 (λ begins. start_ask setup) (start_named setup) one line read why certain is
-
--- what startup asks for, by its setup
-pub asks_so : (ask : OpenAsk) (name : List ℕ) (now : Bool) → IsStartupAsk 0 ask → ask.name ≡ Some name → now ≡ (ask.flags == 0x102)
-    → ask ≡ record { ns = Some 0; name = Some name; flags = if now then 0x102 else 0x101 }
-asks_so ask name now x named is =
-    ap (λ n. record ask { ns = n }) x.base ∙ ap (λ n. record ask { ns = Some 0; name = n }) named
-    ∙ ap (λ f. record { ns = Some 0; name = Some name; flags = f }) (by x.flags ∙ ap (λ (b : Bool). if b then 0x102 else 0x101) (sym is))
-  where
-    by : (ask.flags ≡ 0x101) ⊎ (ask.flags ≡ 0x102) → ask.flags ≡ (if ask.flags == 0x102 then 0x102 else 0x101)
-    by (inl f) = f ∙ sym (ap (λ (n : ℕ). if n == 0x102 then 0x102 else 0x101) f)
-    by (inr f) = f ∙ sym (ap (λ (n : ℕ). if n == 0x102 then 0x102 else 0x101) f)

@@ -1,6 +1,6 @@
 -- Openings once startup is over, for what they ask.
 use Rattle.std.proofs.Common.{◌≡◌, inl, ◌<◌, ◌≤◌, ℕ, true, false, List, [], ◌∷◌, Option, Some, None, length, refl, sym, ap, subst, ◌∙◌, arith}
-use Rattle.std.specs.Prelude.{not, ◌&&◌, nat_le}
+use Rattle.std.specs.Prelude.{nat_le}
 use Rattle.std.proofs.lemmas.Bool.{true≢false}
 use Rattle.std.proofs.lemmas.Bool.Decides.{nat_tests}
 use Rattle.ld_base.specs.declared.fault.DlFault.{DlFault}
@@ -12,7 +12,7 @@ use Rattle.history_event.specs.declared.event.OpenAsk.{OpenAsk}
 use Rattle.history_event.specs.declared.event_line.OpenLine.{OpenLine}
 use Rattle.history_state.specs.After.{after}
 use Rattle.history_state.specs.Allowed.{Allowed}
-use Rattle.history_state.specs.Asking.{AreNamespacesFull, IsAsked, IsBadNamespace, IsNamespace, MayAsk, asks_too_long}
+use Rattle.history_state.specs.Asking.{AreNamespacesFull, IsAsked, IsBadNamespace, IsNamespace, MayAsk}
 use Rattle.history_state.specs.Objects.{is_startup}
 use Rattle.history_state.specs.Opening.{HasProgram, OpensName, Refuses}
 use Rattle.history_state.specs.Opening.Refuses.{name_too_long, bad_flags, bad_namespace, namespaces_full, stopped, lacks_version, has_no_pages, unrelocated}
@@ -21,7 +21,7 @@ use Rattle.history_state.specs.State.{State}
 use Rattle.history_calls.specs.Answer.{refused}
 use Rattle.history_calls.specs.CallLaws.Laws.{RefusedByAsking}
 use Rattle.history_calls.specs.Laws.{AskFirst, is_want}
-use Rattle.trace_opens.specs.OpeningRows.Asked.{IsKnown, IsOverlong, IsRefusedFor}
+use Rattle.trace_opens.specs.OpeningRows.Asked.{IsKnown, IsRefusedFor}
 use Rattle.trace_opens.specs.OpeningRows.Expected.{IsExpectedOpening, refusal}
 use Rattle.trace_opens.proofs.OpeningRows.Answered.{came, gives}
 
@@ -33,32 +33,7 @@ not_begun s hart ask started is = absurd (true≢false (sym is ∙ started))
 is_long : (name : List ℕ) → 256 < length name → nat_le 256 (length name) ≡ true
 is_long name long = grind (arith, nat_tests)
 
-too_long : (s : State) (name : Option (List ℕ)) → is_startup s ≡ false → IsOverlong name → asks_too_long s name ≡ true
-too_long s (Some name) started long = ap (λ b. not b && nat_le 256 (length name)) started ∙ is_long name long
-too_long s None started long = absurd long
-
-not_overlong : (name : Option (List ℕ)) (text : List ℕ) → name ≡ Some text → length text ≡ 256 → IsOverlong name → ⊥
-not_overlong name text is count long = let over : 256 < length text = subst IsOverlong is long in omega (arith, over, count)
-
 module _ (w : Setting) (past : List Event) (hart : ℕ) (ask : OpenAsk) (started : is_startup (after past) ≡ false) where
-  refused_short : (fault : DlFault) → IsOverlong ask.name → Refuses w (after past) hart ask fault → ⊥
-  refused_short _ long (name_too_long name is count too) = not_overlong ask.name name is count long
-  refused_short _ long (bad_flags short bad) = true≢false (sym (too_long (after past) ask.name started long) ∙ short)
-  refused_short _ long (bad_namespace number short flags bad) = true≢false (sym (too_long (after past) ask.name started long) ∙ short)
-  refused_short _ long (namespaces_full short flags full) = true≢false (sym (too_long (after past) ask.name started long) ∙ short)
-  refused_short _ long (stopped name id fault x) = true≢false (sym (too_long (after past) ask.name started long) ∙ x.named.asked.short)
-  refused_short _ long (lacks_version name id fault x) = true≢false (sym (too_long (after past) ask.name started long) ∙ x.named.asked.short)
-  refused_short _ long (has_no_pages name id pages x) = true≢false (sym (too_long (after past) ask.name started long) ∙ x.named.asked.short)
-  refused_short _ long (unrelocated name id fault x) = true≢false (sym (too_long (after past) ask.name started long) ∙ x.named.asked.short)
-
-  not_allowed : (answer : OpenAnswer) → IsOverlong ask.name → Allowed w past (Open hart ask answer) → ⊥
-  not_allowed (opens.Done id root added ranges) long x = true≢false (sym (too_long (after past) ask.name started long) ∙ x.asked.short)
-  not_allowed opens.Absent long x = true≢false (sym (too_long (after past) ask.name started long) ∙ x.asked.short)
-  not_allowed (opens.Refused fault) long x = refused_short fault long x.refuses
-
-  pub expects_no_long : (line : OpenLine) → IsOverlong ask.name → IsExpectedOpening w past hart ask line None
-  expects_no_long line long = record { may = tt; only = inl (λ answer said allowed. absurd (not_allowed answer long allowed)) }
-
   -- ---- what is refused for what it asks
 
   known_name : (name : Option (List ℕ)) → IsKnown name → (text : List ℕ) → name ≡ Some text → length text ≤ 256

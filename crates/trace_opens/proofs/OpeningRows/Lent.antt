@@ -75,12 +75,6 @@ first_is l b past x binds namespace shows u = record {
 abbrev or_empty : ℕ → Option Namespace → Namespace
 or_empty id f = elim f [ Some n ↦ n | None ↦ empty_namespace id ]
 
-pub before_some : (l : Lists) (past : List Event) (id : ℕ) (ns : Namespace) → Shows past l → find (has_id id) l.namespaces ≡ Some ns → ns ≡ namespace_before (after past) id
-before_some l past id ns shows found = ap (or_empty id) (sym found) ∙ ap (λ all. or_empty id (find (has_id id) all)) shows.state.namespaces
-
-pub before_none : (l : Lists) (past : List Event) (id : ℕ) → Shows past l → find (has_id id) l.namespaces ≡ None → empty_namespace id ≡ namespace_before (after past) id
-before_none l past id shows none = ap (or_empty id) (sym none) ∙ ap (λ all. or_empty id (find (has_id id) all)) shows.state.namespaces
-
 all_in : {X : Type 0} (P : X → Type 0) (xs : List X) → ((x : X) → Contains xs x → P x) → AllByRecursion P xs
 all_in P [] every = tt
 all_in P (x ∷ xs) every = (every x (here x xs), all_in P xs (λ y inside. every y (later x xs y inside)))

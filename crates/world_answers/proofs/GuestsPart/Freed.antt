@@ -13,7 +13,7 @@ use Rattle.hart_moves.specs.Due.{Due, Return, by_resolving, due}
 use Rattle.hart_moves.specs.Harts.{HartState, Resolving}
 use Rattle.hart_moves.specs.Moves.{freed, settled_resolving}
 use Rattle.hart_seat.specs.Table.{HartTable}
-use Rattle.world_answers.specs.Answers.{is_service, is_wait}
+use Rattle.world_answers.specs.Answers.{is_service}
 use Rattle.world_answers.specs.ReturnsPart.Completing.{is_complete}
 use Rattle.world_answers.specs.ReturnsPart.Settling.{freed_in, harts_in}
 use Rattle.world_answers.specs.GuestsPart.Asking.{asks_linker, is_called}
@@ -79,9 +79,6 @@ serve_of (Due.store text stored word more) is = absurd (true≢false (sym is))
 serve_of (Due.enter function frames) is = absurd (true≢false (sym is))
 serve_of (Due.complete purpose object rest below) is = absurd (true≢false (sym is))
 serve_of (Due.finalise code object) is = absurd (true≢false (sym is))
-
-pub asks_of_service : (d : Due) → is_service d ≡ true → asks_linker d ≡ true
-asks_of_service d is = ap (λ (x : Bool). (x || is_wait d) || is_complete d) is
 
 pub asks_of_called : (d : Due) → is_called d ≡ true → asks_linker d ≡ true
 asks_of_called d is = ap (λ (x : Bool). x || is_complete d) is

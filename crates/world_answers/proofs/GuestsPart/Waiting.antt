@@ -65,18 +65,3 @@ made_runs false for call back d is called = ap may_run_functions is
 pub waits_run : (s : State) (b : HartState) (for : Shown) (asked : code_call) → due_in s b (code.Wait for asked) ≡ due s b → is_service (due s b) ≡ true
     → may_run_by (call_in s asked) ≡ may_run_functions (due s b)
 waits_run s b for asked is called = made_runs (is_still s for) for (call_in s asked) (back_of b asked) (due s b) is called
-
--- only a call runs functions
-pub runs_by_call : (d : Due) → may_run_functions d ≡ true → is_service d ≡ true
-runs_by_call (Due.serve call back) runs = refl
-runs_by_call Due.nothing runs = absurd (true≢false (sym runs))
-runs_by_call (Due.exchange o) runs = absurd (true≢false (sym runs))
-runs_by_call (Due.finish o found) runs = absurd (true≢false (sym runs))
-runs_by_call Due.fuel_out runs = absurd (true≢false (sym runs))
-runs_by_call Due.instruction runs = absurd (true≢false (sym runs))
-runs_by_call (Due.copy copy start bytes) runs = absurd (true≢false (sym runs))
-runs_by_call (Due.wait for) runs = absurd (true≢false (sym runs))
-runs_by_call (Due.store text stored word more) runs = absurd (true≢false (sym runs))
-runs_by_call (Due.enter function frames) runs = absurd (true≢false (sym runs))
-runs_by_call (Due.complete purpose object rest below) runs = absurd (true≢false (sym runs))
-runs_by_call (Due.finalise code object) runs = absurd (true≢false (sym runs))
