@@ -1,10 +1,9 @@
 -- What is known of a journal whose first lines are read.
-use Rattle.std.proofs.Common.{◌≡◌, ◌≢◌, ℕ, suc, ◌+◌, ◌<◌, ◌==◌, Bool, true, false, cond, List, [], ◌∷◌, ◌++◌, length, map, take, drop, refl, sym, ap, ◌∙◌, subst, append_assoc, append-nil, add-zero, arith}
-use Rattle.std.specs.Prelude.{Option, Some, None, option_map}
-use Rattle.std.specs.String.{string_bytes}
-use Rattle.std.specs.List.{All, find, flat_map}
+use Rattle.std.proofs.Common.{◌≡◌, ℕ, suc, ◌+◌, ◌==◌, Bool, true, false, cond, List, [], ◌∷◌, ◌++◌, length, take, drop, refl, sym, ap, ◌∙◌, subst, append_assoc, append-nil, add-zero, arith}
+use Rattle.std.specs.Prelude.{Option, Some, None}
+use Rattle.std.specs.List.{All, find}
 use Rattle.std.proofs.lemmas.List.{take-append-drop}
-use Rattle.std.proofs.lemmas.List.Elements.{All-cons, All-head, All-nil, All-push, All-tail, All-weaker}
+use Rattle.std.proofs.lemmas.List.Elements.{All-head, All-push, All-tail, All-weaker}
 use Rattle.std.proofs.lemmas.Bool.Decides.{nat_tests}
 use Rattle.history_event.specs.declared.event_line.EventLine.{EventLine}
 use Rattle.history_event.specs.declared.event_line.EventLine.TheVariants as lines
@@ -14,8 +13,7 @@ use Rattle.trace_view.specs.declared.journal.Made.{Made}
 use Rattle.trace_view.specs.declared.journal.Step.{Step}
 use Rattle.trace_view.specs.declared.fault.ViewFault.{ViewFault}
 use Rattle.trace_view.specs.declared.fault.ViewFault.TheVariants as faults
-use Rattle.trace_view.specs.declared.journal.Journal.{Journal}
-use Rattle.trace_view.specs.Journal.{AreRows, AtNumber, EndsAt, IsJournal, IsMadeIn, IsRefused, SettledIn, Settles, events_of, grant_of, last_line, line_length, lines_of, made_by, noted, settled_by, step_at}
+use Rattle.trace_view.specs.Journal.{AreRows, IsMadeIn, SettledIn, Settles, events_of, grant_of, lines_of, made_by, noted, settled_by, step_at}
 
 pub record IsReadSo (bytes : List ℕ) (rest : List ℕ) (steps : List Step) (grants : List Made) : Type 0 where
   pub text : bytes ≡ lines_of (events_of steps) ++ rest
@@ -23,15 +21,6 @@ pub record IsReadSo (bytes : List ℕ) (rest : List ℕ) (steps : List Step) (gr
   pub rows : AreRows 0 steps
   pub made : All (IsMadeIn (events_of steps)) grants
   pub settled : All (λ step. SettledIn (events_of steps) step.event step.grant) steps
-
-pub nothing_read : (bytes : List ℕ) → IsReadSo bytes bytes [] []
-nothing_read bytes = record {
-  text = refl;
-  fit = All-nil IsWritable;
-  rows = tt;
-  made = All-nil (IsMadeIn []);
-  settled = All-nil (λ step. SettledIn [] step.event step.grant);
-}
 
 pub length-events : (steps : List Step) → length (events_of steps) ≡ length steps
 length-events [] = refl
@@ -163,34 +152,3 @@ read_next n bytes rest line behind steps after grants noted_after event so front
     subst (λ (ss : List Step). IsReadSo bytes behind ss noted_after) (sym are)
     (subst (λ (gs : List Made). IsReadSo bytes behind (steps ++ step_at (length steps) grants event ∷ []) gs) (sym made)
     (read_more bytes line behind steps grants event before has))
-
-pub read_all : (bytes rest : List ℕ) (journal : Journal) (grants : List Made) → IsReadSo bytes rest journal.steps grants
-    → rest ≡ last_line (option_map string_bytes journal.last) → IsJournal bytes journal
-read_all bytes rest journal grants so is = record {
-  text = so.text ∙ ap (λ (r : List ℕ). lines_of (events_of journal.steps) ++ r) is;
-  fit = so.fit;
-  rows = so.rows;
-  settled = so.settled;
-}
-
--- the line that is no event's ends the journal
-pub read_ended : (n : ℕ) (bytes rest line behind : List ℕ) (steps : List Step) (grants : List Made) (journal : Journal)
-    → IsReadSo bytes rest steps grants → line ≡ take n rest → behind ≡ drop n rest → EndsAt steps line behind journal → IsJournal bytes journal
-read_ended n bytes rest line behind steps grants journal so front back ends =
-    let whole : line ++ behind ≡ rest = ap (λ (l : List ℕ). l ++ behind) front ∙ ap (λ (b : List ℕ). take n rest ++ b) back ∙ take-append-drop n rest in
-    let left : rest ≡ line = sym whole ∙ ap (λ (b : List ℕ). line ++ b) ends.nothing ∙ append-nil line in
-    read_all bytes rest journal grants (subst (λ (ss : List Step). IsReadSo bytes rest ss grants) (sym ends.are) so) (left ∙ ends.last)
-
--- or it is refused
-pub read_refused : (bytes rest line : List ℕ) (steps : List Step) (grants : List Made) (fault : ViewFault)
-    → IsReadSo bytes rest steps grants → 0 < length rest → line ≡ take (line_length rest) rest → ((event : EventLine) → HasLine line event → ⊥)
-    → AtNumber (length steps + 1) fault → IsRefused bytes fault
-read_refused bytes rest line steps grants faults.Memory so there front none_has at = tt
-read_refused bytes rest line steps grants (faults.NoEvent number) so there front none_has at = record {
-  events = events_of steps;
-  rest = rest;
-  before = ap (λ (k : ℕ). k + 1) (length-events steps) ∙ sym at;
-  text = so.text;
-  there = λ e. let none : length rest ≡ 0 = ap length e in absurd (omega (arith, none, there));
-  no_event = λ event has. none_has event (subst (λ (l : List ℕ). HasLine l event) (sym front) has);
-}
