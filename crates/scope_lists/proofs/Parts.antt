@@ -13,13 +13,12 @@ use Rattle.scope_rule.specs.Loading.{is_dying}
 use Rattle.scope_rule.specs.Scope.{scope, whole_scope}
 use Rattle.scope_rule.specs.Seen.{Seen}
 use Rattle.scope_lists.specs.Brought.{brought_in}
-use Rattle.scope_lists.specs.Kept.{ArePlaced, IsOwn, IsScope, after_of, before_of, entry_in, entry_of, kept_in}
-use Rattle.scope_rule.specs.Places.{ArePlaces, serials_of}
+use Rattle.scope_lists.specs.Kept.{ArePlaced, IsOwn, IsScope, after_of, before_of, entry_in, kept_in}
+use Rattle.scope_rule.specs.Places.{serials_of}
 use Rattle.scope_lists.specs.Searched.{FindsAlike, serials_in}
 use Rattle.scope_lists.specs.declared.kept.KeptScope.{KeptScope}
-use Rattle.scope_rule.specs.declared.places.Places.{Places}
 use Rattle.scope_lists.specs.declared.searched.Searched.{Searched}
-use Rattle.scope_lists.proofs.Stands.{entries_noted, sees_all}
+use Rattle.scope_lists.proofs.Stands.{sees_all}
 
 -- ---- searches of lists that follow one another
 
@@ -118,7 +117,7 @@ entries_append : (all xs ys : List ℕ) → map (entry_in all) xs ++ map (entry_
 entries_append all [] ys = refl
 entries_append all (x ∷ xs) ys = ap (λ (l : List Searched). entry_in all x ∷ l) (entries_append all xs ys)
 
-module _ (s : Seen) (places : Places) (are : ArePlaces (serials_of s) places) where
+module _ (s : Seen) (places : List ℕ) (are : places ≡ serials_of s) where
   abbrev at : ℕ → Searched
   at x = entry_in (serials_of s) x
 
@@ -129,7 +128,7 @@ module _ (s : Seen) (places : Places) (are : ArePlaces (serials_of s) places) wh
   }
 
   -- a scope that nothing shares
-  pub is_alone : (global : List Searched) (o : Loaded) (found : KeptScope) (list : List ℕ) → found.before.items ≡ map (entry_of places) list → found.is_global ≡ false → found.after.items ≡ [] → list ≡ scope s o → IsScope s global o found
+  pub is_alone : (global : List Searched) (o : Loaded) (found : KeptScope) (list : List ℕ) → found.before.items ≡ map (entry_in places) list → found.is_global ≡ false → found.after.items ≡ [] → list ≡ scope s o → IsScope s global o found
   is_alone global o found list there lone none is =
       is_scope global o found list
       (ap (λ (b : Bool). found.before.items ++ cond b global [] ++ found.after.items) lone
@@ -137,15 +136,15 @@ module _ (s : Seen) (places : Places) (are : ArePlaces (serials_of s) places) wh
       ∙ append-nil (found.before.items ++ [])
       ∙ append-nil found.before.items
       ∙ there
-      ∙ entries_noted (serials_of s) places are list)
+      ∙ ap (λ (l : List ℕ). map (entry_in l) list) are)
       (λ pick. ap (first_with pick) is)
 
   -- one that shares the global list
   pub is_shared : (global : List Searched) (o : Loaded) (found : KeptScope) (own first last : List ℕ) → IsOwn s o own → (is_dying o || not (list_any is_dying s.objects)) ≡ true → global ≡ map at s.global → first ≡ before_of o own → last ≡ after_of o own
-      → found.before.items ≡ map (entry_of places) first → found.is_global ≡ true → found.after.items ≡ map (entry_of places) last → IsScope s global o found
+      → found.before.items ≡ map (entry_in places) first → found.is_global ≡ true → found.after.items ≡ map (entry_in places) last → IsScope s global o found
   is_shared global o found own first last is sees shared firsts lasts befores both afters =
-      let front : found.before.items ≡ map at (before_of o own) = befores ∙ entries_noted (serials_of s) places are first ∙ ap (map at) firsts in
-      let back : found.after.items ≡ map at (after_of o own) = afters ∙ entries_noted (serials_of s) places are last ∙ ap (map at) lasts in
+      let front : found.before.items ≡ map at (before_of o own) = befores ∙ ap (λ (l : List ℕ). map (entry_in l) first) are ∙ ap (map at) firsts in
+      let back : found.after.items ≡ map at (after_of o own) = afters ∙ ap (λ (l : List ℕ). map (entry_in l) last) are ∙ ap (map at) lasts in
       is_scope global o found (before_of o own ++ s.global ++ after_of o own)
       (ap (λ (b : Bool). found.before.items ++ cond b global [] ++ found.after.items) both
       ∙ ap (λ (xs : List Searched). xs ++ global ++ found.after.items) front

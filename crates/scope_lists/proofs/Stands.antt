@@ -18,22 +18,26 @@ use Rattle.scope_rule.specs.Seen.{Seen}
 use Rattle.scope_rule.specs.declared.namespace.OpenRec.{OpenRec}
 use Rattle.scope_lists.specs.Brought.{brought_to}
 use Rattle.scope_lists.specs.Definers.{AreDefiners}
-use Rattle.scope_lists.specs.Kept.{ArePlaced, AreScopes, IsScope, KeepsAll, entry_in, entry_of, kept_at, kept_in}
-use Rattle.scope_lists.specs.Links.{found_once}
+use Rattle.scope_lists.specs.Kept.{ArePlaced, AreScopes, IsScope, KeepsAll, entry_in, kept_at, kept_in}
+use Rattle.scope_lists.specs.Links.{AreLinks, found_once}
 use Rattle.scope_lists.specs.Lists.{AreListed, AreListsOf, ArePartsOf, IsListed, IsListedAt, IsSearched}
-use Rattle.scope_rule.specs.Places.{ArePlaces, place_in, place_of, serials_of}
+use Rattle.scope_rule.specs.Places.{place_in, serials_of}
 use Rattle.scope_lists.specs.Searched.{at_place, in_parts, serials_in}
 use Rattle.scope_lists.specs.declared.definers.Definer.{Definer}
 use Rattle.scope_lists.specs.declared.kept.KeptScope.{KeptScope}
 use Rattle.scope_lists.specs.declared.kept.KeptScopes.{KeptScopes}
+use Rattle.scope_lists.specs.declared.links.Links.{Links}
 use Rattle.scope_lists.specs.declared.lists.SearchLists.{SearchLists}
-use Rattle.scope_rule.specs.declared.places.Places.{Places}
 use Rattle.scope_lists.specs.declared.searched.ScopeParts.{ScopeParts}
 use Rattle.scope_lists.specs.declared.searched.Searched.{Searched}
 use Rattle.scope_lists.specs.VersionPlaces.Places.{places_of}
 use Rattle.scope_lists.specs.declared.version_places.names.VersionPlace.{VersionPlace}
 
 -- ---- the first place of a serial
+
+-- links know the first place of a serial
+pub at_first : (s : Seen) (links : Links) → AreLinks s links → (q : ℕ) → place_in links.places q ≡ place_in (serials_of s) q
+at_first s links are q = ap (λ (l : List ℕ). place_in l q) are.places
 
 -- a place that is the first of a serial has its object
 pub placed : (s : Seen) (q : ℕ) (place : Option ℕ) → place ≡ place_in (serials_of s) q → at_place s place ≡ object_of s q
@@ -169,15 +173,6 @@ all_searched : (s : Seen) (xs : List Searched) → ArePlaced (serials_of s) xs �
 all_searched s [] all = tt
 all_searched s (x ∷ xs) all = (placed s x.serial x.place all.0, all_searched s xs all.1)
 
--- objects as they are noted
-abbrev with_place : ℕ → Option ℕ → Searched
-with_place serial place = record { serial = serial; place = place }
-
-pub entries_noted : (xs : List ℕ) (places : Places) → ArePlaces xs places → (ys : List ℕ) → map (entry_of places) ys ≡ map (entry_in xs) ys
-entries_noted xs places are [] = refl
-entries_noted xs places are (y ∷ ys) =
-    ap (λ (place : Option ℕ). with_place y place ∷ map (entry_of places) ys) (are y) ∙ ap (λ (l : List Searched). entry_in xs y ∷ l) (entries_noted xs places are ys)
-
 -- what is kept of an object are the parts of its scope
 pub kept_parts : (s : Seen) (lists : SearchLists) (k : ℕ) (o : Loaded) (parts : ScopeParts) → AreListsOf s lists → IsListedAt lists k → slice_get s.objects k ≡ Some o
     → ((found : KeptScope) → kept_at lists.scopes k ≡ Some found → in_parts parts ≡ kept_in lists.scopes.global.items found)
@@ -199,28 +194,28 @@ kept_parts s lists k o parts are has here gives known = by (kept_at lists.scopes
     by None is some = absurd (cc some)
 
 -- none is kept at first
-pub none_kept : (s : Seen) (places : Places) (kept : KeptScopes) → ArePlaces (serials_of s) places → kept.global.items ≡ map (entry_of places) s.global → kept.definers ≡ None → ((place : ℕ) → kept_at kept place ≡ None) → AreScopes s kept
+pub none_kept : (s : Seen) (places : List ℕ) (kept : KeptScopes) → places ≡ serials_of s → kept.global.items ≡ map (entry_in places) s.global → kept.definers ≡ None → ((place : ℕ) → kept_at kept place ≡ None) → AreScopes s kept
 none_kept s places kept are global unknown none = record {
-  global = global ∙ entries_noted (serials_of s) places are s.global;
+  global = global ∙ ap (λ (l : List ℕ). map (entry_in l) s.global) are;
   definers = subst (λ (d : Option (List Definer)). IfSome d (AreDefiners s.objects kept.global.items)) (sym unknown) tt;
   each = λ place o found here has. absurd (let no : None ≡ Some found = sym (none place) ∙ has in cc no);
 }
 
 -- where the objects stand of any namespace is the same
-listed : (s : Seen) (before after : SearchLists) (q k : ℕ) → AreListsOf s before → AreListsOf s after → place_of before.links.places q ≡ Some k → ((o : Loaded) → slice_get s.objects k ≡ Some o → IsListedAt after k) → IsListed after q
+listed : (s : Seen) (before after : SearchLists) (q k : ℕ) → AreListsOf s before → AreListsOf s after → place_in before.links.places q ≡ Some k → ((o : Loaded) → slice_get s.objects k ≡ Some o → IsListedAt after k) → IsListed after q
 listed s before after q k was are here there place at =
-    let both : Some k ≡ Some place = sym here ∙ was.links.places q ∙ sym (are.links.places q) ∙ at in
+    let both : Some k ≡ Some place = sym here ∙ at_first s before.links was.links q ∙ sym (at_first s after.links are.links q) ∙ at in
     let same : k ≡ place = cc both in
-    let one = object_there s q k (sym (was.links.places q) ∙ here) in
+    let one = object_there s q k (sym (at_first s before.links was.links q) ∙ here) in
     subst (IsListedAt after) same (there one.0 one.1)
 
 -- each object that is there is listed, where all are
 pub each_listed : (s : Seen) (lists : SearchLists) (q : ℕ) → AreListsOf s lists → AreListed s 0 lists → IsListed lists q
 each_listed s lists q are all place at =
-    let one = object_there s q place (sym (are.links.places q) ∙ at) in
+    let one = object_there s q place (sym (at_first s lists.links are.links q) ∙ at) in
     all place one.0 (omega arith) one.1
 
-pub one_listed : (s : Seen) (before after : SearchLists) (q k : ℕ) (r : Result Unit AllocError) → AreListsOf s before → AreListsOf s after → place_of before.links.places q ≡ Some k
+pub one_listed : (s : Seen) (before after : SearchLists) (q k : ℕ) (r : Result Unit AllocError) → AreListsOf s before → AreListsOf s after → place_in before.links.places q ≡ Some k
     → OnOk r ((o : Loaded) → slice_get s.objects k ≡ Some o → IsListedAt after k) → OnOk r (IsListed after q)
 one_listed s before after q k (Ok x) was are here there = listed s before after q k was are here there
 one_listed s before after q k (Err e) was are here there = tt

@@ -19,7 +19,7 @@ use Rattle.scope_lists.specs.Links.{found_once}
 use Rattle.scope_lists.specs.Lists.{AreListsOf, ChangesStateAlone}
 use Rattle.scope_lists.specs.NameOrder.{IsNameOrder}
 use Rattle.scope_lists.specs.NameOrders.{AreNameOrders}
-use Rattle.scope_rule.specs.Places.{place_in, serials}
+use Rattle.scope_rule.specs.Places.{serials}
 use Rattle.scope_lists.specs.Searched.{object_at}
 use Rattle.scope_lists.specs.declared.kept.KeptScope.{KeptScope}
 use Rattle.scope_lists.specs.declared.kept.KeptScopes.{KeptScopes}
@@ -180,7 +180,7 @@ module _ (change : Loaded → Loaded) (alone : (o : Loaded) → ChangesStateAlon
     pub stay : (lists : SearchLists) → AreListsOf s lists → AreListsOf Then lists
     stay lists are = record {
       links = record {
-        places = λ q. are.links.places q ∙ ap (λ (l : List ℕ). place_in l q) (sym (same_serials s.objects));
+        places = are.links.places ∙ sym (same_serials s.objects);
         found = are.links.found ∙ sym (same_links s.objects);
         all = λ q x there some. are.links.all q x (ap (λ (l : List ℕ). has l x) (sym (same_found q)) ∙ there) some;
       };

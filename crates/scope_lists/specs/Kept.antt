@@ -9,19 +9,15 @@ use Rattle.scope_rule.specs.Seen.{Seen}
 use Rattle.scope_lists.specs.Brought.{brought_in}
 use Rattle.scope_lists.specs.Covering.{IsCovered}
 use Rattle.scope_lists.specs.Definers.{AreDefiners}
-use Rattle.scope_rule.specs.Places.{place_in, place_of, serials_of}
+use Rattle.scope_rule.specs.Places.{place_in, serials_of}
 use Rattle.scope_lists.specs.Searched.{FindsAlike, serials_in}
 use Rattle.scope_lists.specs.declared.kept.KeptScope.{KeptScope}
 use Rattle.scope_lists.specs.declared.kept.KeptScopes.{KeptScopes}
-use Rattle.scope_rule.specs.declared.places.Places.{Places}
 use Rattle.scope_lists.specs.declared.searched.Searched.{Searched}
 
--- the object with a serial among those with such serials, and as it is noted
+-- the object with a serial among those with such serials
 abbrev pub entry_in : List ℕ → ℕ → Searched
 entry_in serials serial = record { serial = serial; place = place_in serials serial }
-
-abbrev pub entry_of : Places → ℕ → Searched
-entry_of places serial = record { serial = serial; place = place_of places serial }
 
 -- each stands where the first of its serial does
 abbrev pub ArePlaced : List ℕ → List Searched → Type 0

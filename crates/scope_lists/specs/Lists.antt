@@ -9,7 +9,7 @@ use Rattle.scope_lists.specs.Definers.{AreDefiners}
 use Rattle.scope_lists.specs.Kept.{AreScopes, kept_at}
 use Rattle.scope_lists.specs.Links.{AreLinks}
 use Rattle.scope_lists.specs.NameOrders.{AreNameOrders}
-use Rattle.scope_rule.specs.Places.{place_of}
+use Rattle.scope_rule.specs.Places.{place_in}
 use Rattle.scope_lists.specs.Searched.{FindsAlike, at_place, in_parts, serials_in}
 use Rattle.scope_lists.specs.declared.lists.SearchLists.{SearchLists}
 use Rattle.scope_lists.specs.declared.searched.ScopeParts.{ScopeParts}
@@ -30,7 +30,7 @@ IsListedAt lists place = IsSome (kept_at lists.scopes place)
 
 -- they know that of the object with a serial
 abbrev pub IsListed : SearchLists → ℕ → Type 0
-IsListed lists owner = (place : ℕ) → place_of lists.links.places owner ≡ Some place → IsListedAt lists place
+IsListed lists owner = (place : ℕ) → place_in lists.links.places owner ≡ Some place → IsListedAt lists place
 
 -- they know those of the objects from a place on
 abbrev pub AreListed : Seen → ℕ → SearchLists → Type 0

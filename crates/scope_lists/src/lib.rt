@@ -1,8 +1,8 @@
 //! Where the references of objects of a namespace are searched.
 //!
 //! [`SearchLists`] are made of a namespace as it stands, at the first question behind a change, or as an
-//! opening will leave it. What an object's names found is gathered once, each object once, and an object is
-//! known by its serial in one step: that takes a step a name. Scopes are made for those objects alone that
+//! opening will leave it. What an object's names found is gathered once, each object once, and where objects
+//! stand is known by their serials: that takes a step a name. Scopes are made for those objects alone that
 //! ask for them, and are kept as parts ([`ScopeParts`]): the global list stands once for all of them, and where
 //! it has all that names found and all that is open, as once a program is loaded, no object has a list of its
 //! own. Else each takes a step an entry of its own, and a look-up an opening.

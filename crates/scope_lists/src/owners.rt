@@ -1,6 +1,6 @@
 //! The objects whose scopes are asked for.
 
-ghost use Rattle.std.specs.Prelude.{◌≡◌, ◌||◌, not};
+ghost use Rattle.std.specs.Prelude.{◌≡◌, ◌||◌};
 ghost use Rattle.std.specs.List.{list_all, list_any};
 ghost use Rattle.scope_rule.specs.Breadth.{has};
 ghost use Rattle.scope_rule.specs.Seen.{seen};

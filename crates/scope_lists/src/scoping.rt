@@ -8,7 +8,7 @@ ghost use Rattle.scope_rule.specs.Scope.{scope, whole_scope};
 ghost use Rattle.scope_rule.specs.Seen.{seen};
 ghost use Rattle.scope_lists.specs.Brought.{brought_in};
 ghost use Rattle.scope_lists.specs.Kept.{IsOwn, IsScope, after_of, before_of, entry_in};
-ghost use Rattle.scope_rule.specs.Places.{ArePlaces, serials_of};
+ghost use Rattle.scope_rule.specs.Places.{serials_of};
 ghost use Rattle.scope_lists.specs.declared.searched.Searched.{Searched as Entry};
 
 use crate::breadth_first::breadth;
@@ -128,7 +128,7 @@ fn standing(
     places: &Places,
     whole: &[Serial],
 ) -> Result<Serials, AllocError>
-    requires { ArePlaces (serials_of (seen view.now)) places.now }
+    requires { places.now ≡ serials_of (seen view.now) }
     ensures { IfOk result (λ found. found ≡ filter (λ s. not (is_dying_at (seen view.now) s)) whole.now) }
 {
     let found: Vec<Serial> = whole
@@ -163,7 +163,7 @@ fn unshared(
     owner: &Loaded,
     list: &[Serial],
 ) -> Result<KeptScope, AllocError>
-    requires places { ArePlaces (serials_of (seen view.now)) places.now }
+    requires places { places.now ≡ serials_of (seen view.now) }
     requires list { list.now ≡ scope (seen view.now) owner.now }
     ensures { IfOk result (λ found. (global : List Entry) → IsScope (seen view.now) global owner.now found) }
 {
@@ -183,7 +183,7 @@ fn beside_global(
     owner: &Loaded,
     own: &[Serial],
 ) -> Result<KeptScope, AllocError>
-    requires places { ArePlaces (serials_of (seen view.now)) places.now }
+    requires places { places.now ≡ serials_of (seen view.now) }
     requires own { IsOwn (seen view.now) owner.now own.now }
     requires sees { (is_dying owner.now || not (list_any is_dying (seen view.now).objects)) ≡ true }
     ensures { IfOk result (λ found. (global : List Entry) → global ≡ map (entry_in (serials_of (seen view.now))) (seen view.now).global

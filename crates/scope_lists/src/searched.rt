@@ -1,7 +1,7 @@
 //! What is searched for the references of an object.
 
 ghost use Rattle.std.specs.Prelude.{◌≡◌, map, IfOk};
-ghost use Rattle.scope_lists.specs.Kept.{entry_of};
+ghost use Rattle.scope_lists.specs.Kept.{entry_in};
 
 use crate::definers::Definers;
 use ld_base::Serial;
@@ -30,7 +30,7 @@ pub struct ScopeParts<'a> {
 
 /// The object with a serial.
 fn entry(places: &Places, serial: Serial) -> Searched
-    ensures { result ≡ entry_of places.now serial }
+    ensures { result ≡ entry_in places.now serial }
 {
     Searched {
         serial,
@@ -44,7 +44,7 @@ pub(crate) fn entries(
     places: &Places,
     serials: &[Serial],
 ) -> Result<Vec<Searched>, AllocError>
-    ensures { IfOk result (λ found. found.items ≡ map (entry_of places.now) serials.now) }
+    ensures { IfOk result (λ found. found.items ≡ map (entry_in places.now) serials.now) }
 {
     serials
         .iter()

@@ -1,8 +1,6 @@
 //! Which definition a reference is bound to.
 
-ghost use Rattle.std.specs.Prelude.{◌≡◌, ◌<◌, ◌==◌, not, filter, length, IsSome, IfSome, IfOk};
-ghost use Rattle.std.specs.Option.{option_copied};
-ghost use Rattle.ld_base.specs.Pick.{pick_of};
+ghost use Rattle.std.specs.Prelude.{◌≡◌, ◌<◌, ◌==◌, filter, length, IsSome, IfSome, IfOk};
 ghost use Rattle.scope_rule.specs.Loading.{object_of};
 ghost use Rattle.scope_rule.specs.Seen.{seen, seen_in};
 ghost use Rattle.scope_rule.specs.Choose.{pick_at, first_with, want_of, is_own, choice_of, searched, choose_for, choose_of};

@@ -6,8 +6,8 @@ use ld_base::{Loaded, Serial};
 use std::alloc::{AllocError, Global};
 use std::marker::Model;
 
-/// A [`View`] in which each object is found by its serial in one step. It takes time and memory in
-/// proportion to the objects that are seen, once. Contracts see what is seen.
+/// A [`View`] with the [`Places`] of its objects, by which each is found by its serial. To make it takes time and
+/// memory in proportion to the objects that are seen. Contracts see what is seen.
 #[derive(Drop)]
 pub struct IndexedView<'a> {
     view: View<'a>,
@@ -15,14 +15,15 @@ pub struct IndexedView<'a> {
 }
 
 impl<'a> Model for IndexedView<'a> {
-    ghost use Rattle.scope_rule.specs.Places.{ArePlaces, serials_of};
+    ghost use Rattle.std.specs.Prelude.{◌≡◌};
+    ghost use Rattle.scope_rule.specs.Places.{serials_of};
     ghost use Rattle.scope_rule.specs.Seen.{Seen, seen};
 
     ghost Value = { Seen };
 
     ghost view = { λ i. seen i.view };
 
-    ghost invariant = { λ i. ArePlaces (serials_of (seen i.view)) i.places };
+    ghost invariant = { λ i. i.places ≡ serials_of (seen i.view) };
 }
 
 impl<'a> IndexedView<'a> {

@@ -10,8 +10,8 @@
 //! which shows a namespace as it stands or as an opening will leave it, so that all choices of an opening are
 //! known before anything changes. [`opened_lists`] and `Namespace::opened` say what an opening makes of it.
 //!
-//! In an [`IndexedView`] an object is found by its serial in one step, for whoever asks for many; [`Places`] is
-//! its index alone.
+//! In an [`IndexedView`] objects are found by their serials without going over all, for whoever asks for many:
+//! by halves, since serials ascend in load order. [`Places`] is its index alone.
 //!
 //! What a load brings is a definition here (`specs/Load.antt`), for any namespace, for a program, for
 //! dlopen and for RTLD_NOLOAD, over what reading each path gives. The functions from [`one_outcome`]

@@ -1,7 +1,5 @@
 //! A namespace: its objects, and what has been opened in it.
 
-ghost use Rattle.std.specs.Prelude.{◌≡◌};
-
 use ld_base::{Added, NsId, Sequence, Serial, Serials};
 
 /// An opening that counts: what it opened, and how many times.

@@ -1,20 +1,34 @@
 //! Where the objects of a namespace stand.
 
-ghost use Rattle.std.specs.Prelude.{◌≡◌, ◌∷◌, [], ◌+◌, ◌<◌, ◌^◌, ℕ, length, IfOk, OnOk};
+ghost use Rattle.std.specs.Prelude.{◌≡◌, ◌++◌, OnOk};
 ghost use Rattle.std.specs.List.{slice_get};
+ghost use Rattle.std.specs.List.Sorted.{IsNonDecreasing};
 ghost use Rattle.std.specs.Option.{option_copied};
 ghost use Rattle.scope_rule.specs.Seen.{seen};
-ghost use Rattle.scope_rule.specs.Places.{ArePlaces, NotesMore, place_of, serials, serials_of};
+ghost use Rattle.scope_rule.specs.Places.{place_in, serials};
 
 use crate::view::{View, is_dying};
 use ld_base::{Loaded, Serial};
 use std::alloc::{AllocError, Global};
-use std::collections::HashMap;
+use std::marker::Model;
 
-/// The place in load order of the first object with each serial.
+/// The serials of objects in load order, by which the place of each is found: by halves where they ascend,
+/// as those of a history do, and else one after another. Contracts see the serials.
 #[derive(Drop)]
 pub struct Places {
-    by_serial: HashMap<Serial, usize>,
+    serials: Vec<Serial>,
+    ascends: bool,
+}
+
+impl Model for Places {
+    ghost use Rattle.std.specs.Prelude.{◌≡◌, ℕ, List, true};
+    ghost use Rattle.std.specs.List.Sorted.{IsNonDecreasing};
+
+    ghost Value = { List ℕ };
+
+    ghost view = { λ p. p.serials.items };
+
+    ghost invariant = { λ p. p.ascends ≡ true → IsNonDecreasing p.serials.items };
 }
 
 /// The object at a place in load order.
@@ -28,20 +42,33 @@ pub fn object_at<'a>(view: &View<'a>, place: usize) -> Option<&'a Loaded>
     }
 }
 
+/// Puts the serials of these objects at the end.
+fn append_serials(noted: &mut Vec<Serial>, objects: &[Loaded]) -> Result<(), AllocError>
+    ensures { OnOk result (noted.new.items ≡ noted.old.items ++ serials objects.now) }
+{
+    for object in objects {
+        noted.push(object.serial)?;
+    }
+    Ok(())
+}
+
+/// The first place of a serial among ones that ascend.
+fn place_by_halves(noted: &[Serial], serial: Serial) -> Option<usize>
+    requires { IsNonDecreasing noted.now }
+    ensures { result ≡ place_in noted.now serial }
+{
+    let number = serial.number();
+    let place = noted.partition_point(|other| other.number() < number);
+    let found = noted.get(place)?;
+    if *found == serial { Some(place) } else { None }
+}
+
 impl Places {
-    ghost use Rattle.std.specs.Prelude.{◌≡◌, ◌∷◌, [], ◌+◌, ◌<◌, ◌^◌, ℕ, None, length, IfOk, OnOk};
+    ghost use Rattle.std.specs.Prelude.{◌≡◌, IfOk};
     ghost use Rattle.std.specs.Option.{option_copied};
     ghost use Rattle.scope_rule.specs.Loading.{is_dying_at, object_of};
     ghost use Rattle.scope_rule.specs.Seen.{seen};
-    ghost use Rattle.scope_rule.specs.Places.{ArePlaces, NotesMore, place_of, serials, serials_of};
-
-    /// None yet, with room for so many.
-    fn with_capacity(alloc: Global, count: usize) -> Result<Self, AllocError>
-        ensures { IfOk result (λ places. (serial : ℕ) → place_of places serial ≡ None) }
-    {
-        let by_serial = HashMap::with_capacity(alloc, count)?;
-        Ok(Places { by_serial })
-    }
+    ghost use Rattle.scope_rule.specs.Places.{place_in, serials_of};
 
     /// Those of what is seen of a namespace.
     ///
@@ -49,46 +76,30 @@ impl Places {
     ///
     /// Want of memory.
     pub fn of(alloc: Global, view: &View) -> Result<Self, AllocError>
-        ensures { IfOk result (λ places. ArePlaces (serials_of (seen view.now)) places) }
+        ensures { IfOk result (λ places. places ≡ serials_of (seen view.now)) }
     {
-        let count = view.objects.len() + view.added.len();
-        let mut places = Places::with_capacity(alloc, count)?;
-        places.add_all(view.objects, 0)?;
-        places.add_all(view.added, view.objects.len())?;
-        Ok(places)
-    }
-
-    /// Notes the places of objects that follow one another.
-    fn add_all(&mut self, objects: &[Loaded], first: usize) -> Result<(), AllocError>
-        requires { first + length objects.now < 2 ^ 64 }
-        ensures { OnOk result (NotesMore first (serials objects.now) self.old self.new) }
-    {
-        for (k, object) in objects.iter().enumerate() {
-            self.add(object.serial, first + k)?;
-        }
-        Ok(())
-    }
-
-    /// Notes the place of the serial behind so many, unless it has an earlier one.
-    fn add(&mut self, serial: Serial, place: usize) -> Result<(), AllocError>
-        ensures { OnOk result (NotesMore place (serial ∷ []) self.old self.new) }
-    {
-        if !self.by_serial.contains_key(&serial) {
-            self.by_serial.insert(serial, place)?;
-        }
-        Ok(())
+        let mut serials = Vec::with_capacity(alloc, view.objects.len() + view.added.len())?;
+        append_serials(&mut serials, view.objects)?;
+        append_serials(&mut serials, view.added)?;
+        let ascends = serials.as_slice().is_sorted();
+        Ok(Places { serials, ascends })
     }
 
     /// The place of the first object with a serial, if there is one.
     pub fn get(&self, serial: Serial) -> Option<usize>
-        ensures { result ≡ place_of self.now serial }
+        ensures { result ≡ place_in self.now serial }
     {
-        self.by_serial.get(&serial).copied()
+        let serials = self.serials.as_slice();
+        if self.ascends {
+            place_by_halves(serials, serial)
+        } else {
+            serials.iter().position(|other| *other == serial)
+        }
     }
 
     /// The object of the namespace with a serial.
     pub fn object<'a>(&self, view: &View<'a>, serial: Serial) -> Option<&'a Loaded>
-        requires { ArePlaces (serials_of (seen view.now)) self.now }
+        requires { self.now ≡ serials_of (seen view.now) }
         ensures { option_copied result ≡ object_of (seen view.now) serial }
     {
         let place = self.get(serial)?;
@@ -97,7 +108,7 @@ impl Places {
 
     /// Whether there is such an object and its destructors run.
     pub fn is_dying(&self, view: &View, serial: Serial) -> bool
-        requires { ArePlaces (serials_of (seen view.now)) self.now }
+        requires { self.now ≡ serials_of (seen view.now) }
         ensures { result ≡ is_dying_at (seen view.now) serial }
     {
         match self.object(view, serial) {

@@ -1,6 +1,6 @@
 //! Where a name is searched that isn't a relocation's.
 
-ghost use Rattle.std.specs.Prelude.{◌≡◌, ◌∷◌, [], IfOk};
+ghost use Rattle.std.specs.Prelude.{◌≡◌, IfOk};
 ghost use Rattle.scope_rule.specs.Searching.{in_breadth, in_global};
 ghost use Rattle.scope_rule.specs.Seen.{seen};
 

@@ -22,7 +22,7 @@ pub struct View<'a> {
 }
 
 impl Namespace {
-    ghost use Rattle.std.specs.Prelude.{◌≡◌, ◌++◌};
+    ghost use Rattle.std.specs.Prelude.{◌≡◌};
     ghost use Rattle.scope_rule.specs.Seen.{seen, seen_in, with_added};
 
     /// The namespace as it stands.

@@ -9,8 +9,8 @@
 //! computed once. None of these look-ups takes memory, but for making [`References`].
 //!
 //! [`lookup_breadth`] and [`lookup_global`] give what `scope_rule::search_breadth` and `search_global` give: a name
-//! is looked up where dlsym does. Each object is asked by its hash table, and known by its serial in one step: the
-//! places of all are noted first, which takes memory.
+//! is looked up where dlsym does. Each object is asked by its hash table. The places of all are noted
+//! first, which takes memory.
 //!
 //! `sym_find` follows the one chain of a hash table to which a name's hash leads ([`Find`]).
 #![tactic(auto)]

@@ -54,8 +54,7 @@ impl From<AllocError> for SlotFault {
 }
 
 /// What the slot of an object of a namespace chooses now, `eights` being eight times its number. The lists are
-/// those of the namespace and have the object's scope: by these each object is found in one step. It takes no
-/// memory.
+/// those of the namespace and have the object's scope. It takes no memory.
 ///
 /// # Errors
 ///
