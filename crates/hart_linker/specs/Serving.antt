@@ -1,5 +1,5 @@
 -- A turn that a hart takes under the keeper's lock. For the loop of a hart, which adds it to what it has.
-use Rattle.std.specs.Prelude.{◌≡◌, ℕ, ◌+◌, ◌≤◌, Bool, true, false, List, [], ◌∷◌, ◌++◌, length, take, None}
+use Rattle.std.specs.Prelude.{◌≡◌, ◌+◌, ◌≤◌, Bool, true, false, List, [], ◌∷◌, ◌++◌, length, take, None}
 use Rattle.history_event.specs.declared.event.Event.{Event}
 use Rattle.history_event.specs.declared.event.Event.TheVariants.{Ended}
 use Rattle.history_event.specs.declared.hart_end.HartEnd.{HartEnd}
@@ -14,7 +14,7 @@ use Rattle.history_state.specs.Slots.{HasNoGrant}
 use Rattle.hart_moves.specs.Due.{Due}
 use Rattle.hart_moves.specs.Follows.{HasNone, Turned, TurnsAt}
 use Rattle.hart_moves.specs.Harts.{HartState}
-use Rattle.hart_moves.specs.Moves.{Did, ended, events_of, settles}
+use Rattle.hart_moves.specs.Moves.{ended, events_of, settles}
 use Rattle.hart_trails.specs.Entries.{entry_behind}
 use Rattle.hart_trails.specs.Trails.{Leaves, Reads}
 use Rattle.hart_fits.specs.Fits.{HartFits}
@@ -35,10 +35,6 @@ is_asking (Due.store text stored word more) = false
 is_asking (Due.enter function frames) = false
 is_asking (Due.complete purpose object rest below) = true
 is_asking (Due.finalise code object) = false
-
--- the final destructors of an object have run
-abbrev pub is_finalising : Due → Bool
-is_finalising d = elim d [ Due.finalise code object ↦ true | _ ↦ false ]
 
 -- ---- what came of one
 

@@ -2,7 +2,7 @@
 
 ghost use Rattle.std.specs.Prelude.{◌≡◌, ◌≤◌, ◌<◌, true, false, Some};
 ghost use Rattle.word_rule.specs.Views.{BeginsWith};
-ghost use Rattle.hart_moves.specs.Due.{due};
+ghost use Rattle.hart_moves.specs.Due.{due, is_finalising};
 ghost use Rattle.hart_moves.specs.Starting.{starting_registers};
 ghost use Rattle.history_event.specs.declared.hart_end.HartEnd.TheVariants.{Exit};
 ghost use Rattle.history_state.specs.After.{after};
@@ -10,7 +10,7 @@ ghost use Rattle.history_state.specs.Owed.{times_ended};
 ghost use Rattle.history_state.specs.State.{State};
 ghost use Rattle.hart_linker.specs.Between.{BlocksFit, HasHeard, Hears, IsBetweenTurns};
 ghost use Rattle.hart_linker.specs.Finals.{BeginsLast};
-ghost use Rattle.hart_linker.specs.Serving.{EndsTurn, ServesTurn, WasRunning, is_asking, is_finalising};
+ghost use Rattle.hart_linker.specs.Serving.{EndsTurn, ServesTurn, WasRunning, is_asking};
 ghost use Rattle.tls_blocks.specs.Blocks.{BlockTable};
 
 use crate::{Beginning, HartBlocks};

@@ -7,7 +7,7 @@ use Rattle.history_state.specs.Setting.{Setting}
 use Rattle.history_state.specs.Step.{initialise, loaded}
 use Rattle.history_calls.specs.Answer.{again, over}
 use Rattle.history_calls.specs.Gives.Gives.{to_again}
-use Rattle.hart_moves.specs.Due.{by_phase, call_of, due}
+use Rattle.hart_moves.specs.Due.{by_phase, due}
 use Rattle.hart_moves.specs.Moves.{Did}
 use Rattle.hart_moves.specs.WorkedWaits.{AsksAgain, AsksNothing, BeginsToWait, WaitsOn}
 

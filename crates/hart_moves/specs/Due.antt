@@ -1,5 +1,5 @@
 -- What a hart's next turn is: its state says it, and which objects are mapped.
-use Rattle.std.specs.Prelude.{ℕ, ◌%◌, ◌==◌, nat_lt, if◌then◌else◌, List, [], ◌∷◌, length, min, Some, None}
+use Rattle.std.specs.Prelude.{ℕ, ◌%◌, ◌==◌, nat_lt, if◌then◌else◌, Bool, true, false, List, [], ◌∷◌, length, min, Some, None}
 use Rattle.ld_base.specs.declared.fault.Shown.{Shown}
 use Rattle.history_event.specs.declared.handed.Function.{Function}
 use Rattle.history_event.specs.declared.hart_end.HartEnd.TheVariants as ends
@@ -41,6 +41,10 @@ pub data Due : Type 0 where
   complete : Purpose → (object : ℕ) → List Function → List Frame → Due
   -- the final destructors of an object have run
   finalise : (code object : ℕ) → Due
+
+-- the final destructors of an object have run
+abbrev pub is_finalising : Due → Bool
+is_finalising d = elim d [ Due.finalise code object ↦ true | _ ↦ false ]
 
 -- ---- calls
 

@@ -1,5 +1,5 @@
 -- An opening that came to an object that another hart starts or closes waits until it is no longer so (dlopen(3), dlmopen(3)).
-use Rattle.std.specs.Prelude.{ℕ, Bool, true, false, Option, Some, None}
+use Rattle.std.specs.Prelude.{Bool, true, false, Option, Some, None}
 use Rattle.ld_base.specs.declared.fault.Shown.{Shown}
 use Rattle.ld_base.specs.declared.fault.Shown.TheVariants as shown
 use Rattle.ld_base.specs.declared.linking.Loaded.{Loaded}

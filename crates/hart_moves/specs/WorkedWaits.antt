@@ -1,5 +1,5 @@
 -- Worked turns of a hart that waits for another's object.
-use Rattle.std.specs.Prelude.{◌≡◌, ℕ, List, [], ◌∷◌, codes}
+use Rattle.std.specs.Prelude.{◌≡◌, List, [], ◌∷◌, codes}
 use Rattle.ld_base.specs.declared.fault.Shown.TheVariants.{Initialising}
 use Rattle.history_event.specs.declared.event.Event.{Event}
 use Rattle.history_event.specs.declared.event.Event.TheVariants.{Init}

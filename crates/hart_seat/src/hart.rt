@@ -11,12 +11,14 @@ ghost use Rattle.hart_seat.specs.Table.{done_of, done_with};
 mod calls;
 mod copying;
 mod due;
+mod finalised;
 mod functions;
 mod services;
 mod slot;
 
 use crate::hart_parts::{FunctionQueue, Offered, PassedBytes, start};
 use crate::phase::{Phase, Resolving};
+pub use finalised::FinalisedObject;
 use history_event::{HartEnd, HartEntry};
 use ld_base::Name;
 use rv_hart::{Bus, Hart, Stop};

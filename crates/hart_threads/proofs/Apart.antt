@@ -1,6 +1,5 @@
 -- The harts of a run: the first has run alone, all are told of it, and run to their ends.
 use Rattle.std.proofs.Common.{◌≡◌, ℕ, zero, suc, ◌+◌, ◌<◌, ◌≤◌, false, List, ◌++◌, length, length-append, get_or, refl, sym, ap, subst, ◌∙◌, arith}
-use Rattle.std.specs.List.{Contains}
 use Rattle.history_event.specs.declared.event.Event.{Event}
 use Rattle.history_event.specs.declared.hart_end.HartEnd.{HartEnd}
 use Rattle.rv_hart.specs.Registers.{Registers}
@@ -8,7 +7,6 @@ use Rattle.word_rule.specs.declared.view.HartView.{HartView}
 use Rattle.word_rule.specs.declared.view.TrailItem.{TrailItem}
 use Rattle.word_rule.specs.Views.{BeginsWith, IsLane}
 use Rattle.history_state.specs.Setting.{Setting}
-use Rattle.history_calls.specs.Laws.{hart_of}
 use Rattle.tls_blocks.specs.Blocks.{BlockTable}
 use Rattle.hart_moves.specs.Harts.{HartState}
 use Rattle.hart_moves.specs.Starting.{HartStart}

@@ -18,10 +18,7 @@ use Rattle.hart_threads.specs.Ends.{IsThrough}
 use Rattle.hart_threads.specs.Run.{HearsUpTo, RunsOn, RunsToEnd}
 use Rattle.hart_threads.specs.Turns.{Proceeds}
 use Rattle.hart_threads.proofs.Running.{runs_further}
-use Rattle.hart_threads.proofs.Stepping.{none_joined, none_there}
-
-pub hears_none : (w : Setting) (begun : List Event) (h : HartView) → HasHeard w begun h → Hears w begun h h
-hears_none w begun h heard = record { told = refl; longer = ([], sym (append-nil h.heard)); none = none_there h.heard h.number (length h.heard); heard = heard }
+use Rattle.hart_threads.proofs.Stepping.{none_joined}
 
 number_is : (w : Setting) (begun : List Event) (before now : HartView) → Hears w begun before now → now.number ≡ before.number
 number_is w begun before now x = ap (λ (h : HartView). h.number) x.told

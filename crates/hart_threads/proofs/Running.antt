@@ -20,7 +20,7 @@ use Rattle.history_state.specs.Setting.{Setting}
 use Rattle.history_state.specs.State.{State}
 use Rattle.history_calls.specs.Call.{locates}
 use Rattle.tls_blocks.specs.Blocks.{BlockTable}
-use Rattle.hart_moves.specs.Due.{Due, back, due}
+use Rattle.hart_moves.specs.Due.{Due, back, due, is_finalising}
 use Rattle.hart_moves.specs.Harts.{HartState, Offered, Resolving}
 use Rattle.hart_moves.specs.Moves.{Did, Moves, MovesAs, ended, settled_resolving, spent}
 use Rattle.hart_moves.specs.TurnEvents.Laws.{FinalsStay}
@@ -34,7 +34,7 @@ use Rattle.hart_turns.specs.declared.turned.Turned.{Turned}
 use Rattle.hart_turns.specs.declared.turned.Turned.TheVariants.{Again, Ends, Over}
 use Rattle.world_turns.specs.Lemmas.Resolution.{Resolution, resolution, rests_after}
 use Rattle.hart_linker.specs.Between.{BlocksFit, HasGrant, HasHeard, IsAtRow, IsBetweenTurns}
-use Rattle.hart_linker.specs.Serving.{EndsTurn, ServesTurn, WasRunning, is_asking, is_finalising}
+use Rattle.hart_linker.specs.Serving.{EndsTurn, ServesTurn, WasRunning, is_asking}
 use Rattle.hart_threads.specs.Binding.{BindsSlot, exchanged_to}
 use Rattle.hart_threads.specs.Keeping.{Answers, ReadsBlock, kept_in}
 use Rattle.hart_threads.specs.Next.{HoldsSlot, IsNext}
@@ -48,7 +48,7 @@ use Rattle.hart_threads.proofs.Blocks.{kept_moves, kept_turn, reads_none, was_re
 use Rattle.hart_threads.proofs.Bound.{bound_stands, exchange_turn, finish_turn}
 use Rattle.hart_linker.specs.Lemmas.Hearing.{early_on}
 use Rattle.hart_threads.proofs.Standing.{at_rest, blocks_stay, due_there, row_settles, stands_on, stands_still}
-use Rattle.hart_threads.proofs.Stepping.{front_longer, goes_further, proceeds, stays_here}
+use Rattle.hart_threads.proofs.Stepping.{front_longer, goes_further, proceeds}
 use Rattle.hart_threads.proofs.Turning.{ending_trail, ending_turn, own_is_not_located, quiet_turn, served_turn}
 
 -- ---- what isn't an exchange
@@ -388,13 +388,6 @@ begun_calm w begun before now b c d x at = by c.«end» refl at
 pub begun_over : (b : HartState) → IsBegun b → HasStarted b
 begun_over b (inl started) = inl started.0
 begun_over b (inr ended) = inr ended
-
--- nothing is due
-pub rests_on : (w : Setting) (begun : List Event) (seat : HartView) (b : HartState) (d : BlockTable) → IsBetweenTurns w begun seat b d → IsCalm seat b → RunsOn w begun seat seat b b d
-rests_on w begun seat b d between calm = record { proceeds = stays_here w seat b; between = between; calm = calm }
-
-pub runs_calm : (seat : HartView) (b : HartState) → b.«end» ≡ None → IsCalm seat b
-runs_calm = goes_calm
 
 -- turns one after another
 pub runs_further : (w : Setting) (begun : List Event) (x y z : HartView) (a b c : HartState) (d e : BlockTable) → RunsOn w begun x y a b d → RunsOn w begun y z b c e

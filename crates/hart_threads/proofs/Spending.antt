@@ -8,7 +8,7 @@ use Rattle.history_state.specs.After.{after}
 use Rattle.history_state.specs.Setting.{Setting}
 use Rattle.history_state.specs.State.{State, empty_state}
 use Rattle.tls_blocks.specs.Blocks.{BlockTable}
-use Rattle.hart_moves.specs.Due.{Due, by_phase, by_resolving, due}
+use Rattle.hart_moves.specs.Due.{Due, by_phase, by_resolving, due, is_finalising}
 use Rattle.hart_moves.specs.Harts.{HartState, Offered, Resolving}
 use Rattle.hart_moves.specs.Laws.{TurnsCount}
 use Rattle.hart_moves.specs.Moves.{Did, Moves, ended}
@@ -16,7 +16,7 @@ use Rattle.hart_turns.specs.Turns.{is_own}
 use Rattle.hart_turns.specs.declared.turned.Turned.{Turned}
 use Rattle.hart_turns.specs.declared.turned.Turned.TheVariants.{Again, Ends, Over}
 use Rattle.hart_linker.specs.Between.{IsAtRow}
-use Rattle.hart_linker.specs.Serving.{ServesTurn, is_asking, is_finalising}
+use Rattle.hart_linker.specs.Serving.{ServesTurn, is_asking}
 use Rattle.hart_threads.specs.Binding.{BindsSlot}
 use Rattle.hart_threads.specs.Keeping.{Answers, ReadsBlock, kept_in}
 use Rattle.hart_threads.specs.Next.{HoldsSlot}

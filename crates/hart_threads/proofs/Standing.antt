@@ -98,13 +98,6 @@ at_rest s h b runs row none = by b.resolving refl row
     by (Resolving.to_finish o found) is x = absurd x
     by (Resolving.to_settle o found) is x = x
 
--- at an end it isn't either
-pub rests_at : (h : HartView) (r : Resolving) → h.lane.calling ≡ false → settled_resolving r ≡ Resolving.idle → IsAtRow h r
-rests_at h Resolving.idle calm is = calm
-rests_at h (Resolving.to_exchange o) calm is = absurd (let no : Resolving.to_exchange o ≡ Resolving.idle = is in cc)
-rests_at h (Resolving.to_finish o found) calm is = absurd (let no : Resolving.to_finish o found ≡ Resolving.idle = is in cc)
-rests_at h (Resolving.to_settle o found) calm is = calm
-
 -- ---- between two turns again
 
 -- more stands in its trail, behind a move without events

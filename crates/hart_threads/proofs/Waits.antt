@@ -12,7 +12,6 @@ use Rattle.history_event.specs.declared.hart_end.HartEnd.{HartEnd}
 use Rattle.history_event.specs.declared.hart_end.HartEnd.TheVariants as ends
 use Rattle.history_state.specs.Exits as example
 use Rattle.history_state.specs.State.{State, empty_namespace, empty_state}
-use Rattle.history_calls.specs.Call.{Call}
 use Rattle.history_calls.specs.Call as call
 use Rattle.hart_moves.specs.Copying.{Copy, number_in}
 use Rattle.hart_moves.specs.Due.{Due, all_done, at_service, back, behind, by_frames, by_name, by_phase, by_queue, by_resolving, call_of, done, due, write_count}

@@ -1,11 +1,11 @@
 -- What the next turn of a hart is, as its loop tells turns apart.
 use Rattle.std.specs.Prelude.{◌≡◌, ◌⊎◌, ℕ, ◌<◌, true, false}
 use Rattle.history_calls.specs.Call.{locates}
-use Rattle.hart_moves.specs.Due.{Due, back}
+use Rattle.hart_moves.specs.Due.{Due, back, is_finalising}
 use Rattle.hart_moves.specs.Harts.{HartState, Offered, Resolving}
 use Rattle.hart_trails.specs.Trails.{is_located}
 use Rattle.hart_turns.specs.Turns.{is_own}
-use Rattle.hart_linker.specs.Serving.{is_asking, is_finalising}
+use Rattle.hart_linker.specs.Serving.{is_asking}
 use Rattle.hart_threads.specs.declared.next.Next.{Next}
 use Rattle.hart_threads.specs.declared.next.Next.TheVariants as next
 

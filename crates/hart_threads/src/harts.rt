@@ -1,6 +1,6 @@
 //! Harts side by side.
 
-ghost use Rattle.std.specs.Prelude.{◌≡◌, ◌<◌, ◌≤◌, ℕ, false, All, List, length, slice_index_or};
+ghost use Rattle.std.specs.Prelude.{◌≡◌, ◌<◌, ℕ, false, All, List, length, slice_index_or};
 ghost use Rattle.hart_moves.specs.Harts.{HartState};
 ghost use Rattle.hart_moves.specs.Starting.{starting_registers};
 ghost use Rattle.hart_linker.specs.Between.{HasHeard, Hears};

@@ -2,7 +2,7 @@
 
 ghost use Rattle.std.specs.Prelude.{◌≡◌, ◌<◌, true, false, None, IsSome};
 ghost use Rattle.std.specs.List.{list_any};
-ghost use Rattle.hart_moves.specs.Due.{Due as is_due, back, due};
+ghost use Rattle.hart_moves.specs.Due.{Due as is_due, back, due, is_finalising};
 ghost use Rattle.hart_moves.specs.Harts.{is_startup_frame};
 ghost use Rattle.hart_threads.specs.Next.{HoldsSlot};
 ghost use Rattle.hart_threads.specs.Run.{HoldsNoSlot, IsBegun, IsCalm, RunsOn};
@@ -12,7 +12,7 @@ ghost use Rattle.hart_turns.specs.Turns.{is_own};
 ghost use Rattle.history_calls.specs.Call.{locates};
 ghost use Rattle.history_state.specs.State.{State};
 ghost use Rattle.hart_linker.specs.Between.{IsBetweenTurns};
-ghost use Rattle.hart_linker.specs.Serving.{is_asking, is_finalising};
+ghost use Rattle.hart_linker.specs.Serving.{is_asking};
 
 use crate::binding::bind_slot;
 use crate::keeping::kept_block;

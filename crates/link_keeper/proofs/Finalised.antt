@@ -20,8 +20,7 @@ use Rattle.history_state.specs.State.{State}
 use Rattle.history_state.specs.Step.{step}
 use Rattle.history_calls.specs.Laws.{hart_of}
 use Rattle.hart_fits.specs.Fits.{FitsMayEnd, HartFits, IsBefore, IsInFinals}
-use Rattle.hart_linker.specs.Serving.{is_finalising}
-use Rattle.hart_moves.specs.Due.{Due, by_phase, by_resolving, due}
+use Rattle.hart_moves.specs.Due.{Due, by_phase, by_resolving, due, is_finalising}
 use Rattle.hart_moves.specs.Harts.{Frame, HartState, Purpose, Resolving}
 use Rattle.hart_moves.specs.Moves.{AreAllowed, Did, Finalises, Moves, MovesAs, did_by, ended, final_functions, freed_by, own_fini, runs, settled_resolving, settles, spent, with_first}
 use Rattle.hart_moves.specs.TurnEvents.Appends.{has_finals}

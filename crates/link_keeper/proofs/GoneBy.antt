@@ -25,8 +25,8 @@ use Rattle.hart_fits.specs.Finals.{OwnMovesFit}
 use Rattle.hart_fits.specs.Fits.{HartFits, OthersLeaveHart}
 use Rattle.hart_linker.specs.Between.{Hears, IsAtRow, IsBetweenTurns}
 use Rattle.hart_linker.specs.Lemmas.Hearing.{blocks_told, early_on}
-use Rattle.hart_linker.specs.Serving.{ServesTurn, is_finalising}
-use Rattle.hart_moves.specs.Due.{due}
+use Rattle.hart_linker.specs.Serving.{ServesTurn}
+use Rattle.hart_moves.specs.Due.{due, is_finalising}
 use Rattle.hart_moves.specs.Follows.{HasNone, TurnsAt}
 use Rattle.hart_moves.specs.Harts.{HartState, Resolving}
 use Rattle.hart_moves.specs.Moves.{Did, Moves, settled_resolving}

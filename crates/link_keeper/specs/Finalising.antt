@@ -7,8 +7,7 @@ use Rattle.history_state.specs.Legal.{Legal}
 use Rattle.history_state.specs.Setting.{Setting}
 use Rattle.history_state.specs.State.{State}
 use Rattle.hart_fits.specs.Fits.{HartFits}
-use Rattle.hart_linker.specs.Serving.{is_finalising}
-use Rattle.hart_moves.specs.Due.{Due, due}
+use Rattle.hart_moves.specs.Due.{Due, due, is_finalising}
 use Rattle.hart_moves.specs.Harts.{HartState, Resolving}
 use Rattle.hart_moves.specs.Moves.{did_by, settled_resolving, settles}
 use Rattle.world_answers.specs.ReturnsPart.FinalTurns.Planned.{FinalsMayFollow, IsPlanned}

@@ -1,7 +1,6 @@
 //! Turns that the linker's state takes alone.
 
 ghost use Rattle.std.specs.Prelude.{◌≡◌, ◌<◌, ℕ, true, if◌then◌else◌, length, drop};
-ghost use Rattle.hart_fits.specs.Fits.{HartFits};
 ghost use Rattle.hart_moves.specs.Due.{due};
 ghost use Rattle.hart_moves.specs.Moves.{ended, freed, returning, spent};
 ghost use Rattle.hart_moves.specs.Due.{back};

@@ -1,7 +1,6 @@
 //! A hart ends.
 
 ghost use Rattle.std.specs.Prelude.{◌≡◌, false};
-ghost use Rattle.word_rule.specs.Views.{BeginsWith};
 ghost use Rattle.hart_moves.specs.Moves.{ended};
 ghost use Rattle.tls_blocks.specs.Blocks.{BlockTable};
 ghost use Rattle.hart_linker.specs.Between.{BlocksFit, HasHeard};

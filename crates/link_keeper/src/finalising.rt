@@ -1,13 +1,11 @@
 //! Turns in which final destructors have run.
 
-ghost use Rattle.std.specs.Prelude.{◌≡◌, ◌⊎◌, ℕ, ◌<◌, false, true, [], length, drop, Some, Contains, IfNone, IfOk, IfSome, OnOk, IsTrue};
+ghost use Rattle.std.specs.Prelude.{◌≡◌, ◌⊎◌, ℕ, ◌<◌, true, [], length, drop, Some, Contains, IsTrue};
 ghost use Rattle.hart_linker.specs.Between.{IsBetweenTurns};
-ghost use Rattle.hart_linker.specs.Serving.{ServesTurn, is_finalising};
-ghost use Rattle.hart_moves.specs.Due.{Due as is_due, due};
-ghost use Rattle.hart_moves.specs.Harts.{HartState, Purpose as purpose_is, Resolving};
+ghost use Rattle.hart_linker.specs.Serving.{ServesTurn};
+ghost use Rattle.hart_moves.specs.Due.{Due as is_due, due, is_finalising};
+ghost use Rattle.hart_moves.specs.Harts.{HartState, Resolving};
 ghost use Rattle.hart_moves.specs.Moves.{Did, Moves, settled_resolving};
-ghost use Rattle.hart_moves.specs.TurnEvents.Appends.{is_of_end};
-ghost use Rattle.hart_seat.specs.HartParts.Views.{purpose_of};
 ghost use Rattle.history_calls.specs.Laws.{hart_of};
 ghost use Rattle.history_event.specs.declared.event.Event.{Event};
 ghost use Rattle.history_state.specs.After.{after};
@@ -17,7 +15,6 @@ ghost use Rattle.link_keeper.specs.Acting.{Acts, OpenNothing};
 ghost use Rattle.link_keeper.specs.Finalising.{HasPlan, IsPlannedOr, IsPlannedTurn, MayFinalise};
 ghost use Rattle.link_keeper.specs.Keeping.{KeepsState, OpensNothing};
 ghost use Rattle.link_keeper.specs.Settling.{SettlesOrRests};
-ghost use Rattle.world_answers.specs.ReturnsPart.FinalTurns.Planned.{IsPlanned};
 ghost use Rattle.world_answers.specs.ReturnsPart.FinalTurns.Table.{plan_events};
 
 use crate::acting::{Acted, Reply, end_call};
@@ -29,26 +26,17 @@ use crate::hearing::hear;
 use hart_fits::{harts_fit, own_moves_fit};
 use hart_linker::{HartBlocks, Opening};
 use hart_moves::turns_append;
-use hart_seat::{Due, LinkedHart, Purpose};
+use hart_seat::LinkedHart;
 use history_event::HartEnd;
-use history_journal::accepted_object;
 use history_state::{modules_are_tidy, nothing_comes_before_startup};
-use ld_base::{HartId, Serial};
+use ld_base::HartId;
 use link_state::LinkState;
-use std::alloc::{AllocError, Global};
+use std::alloc::Global;
 use std::sync::Wait;
 use word_memory::{HartSeat, KeeperSeat, Memory};
 use world_answers::{FinalTurn, ends_are_few, finals_go_on, settling_keeps_finals};
 use world_memory::MemoryChange;
 use world_turns::finals_may_pass;
-
-/// An object whose final destructors have run.
-#[derive(Clone, Copy)]
-struct LastObject {
-    /// With which the run has ended.
-    code: u64,
-    object: Serial,
-}
 
 /// The turn in which the final destructors of an object have run.
 #[derive(Drop)]
@@ -117,10 +105,10 @@ fn plan_turn(alloc: Global, state: &LinkState, hart: &mut LinkedHart) -> LastTur
     ensures planned { IsPlannedTurn (after state.now.events) hart.old.hart hart.new.spare result }
     ensures hart { hart.new.hart ≡ hart.old.hart }
 {
-    let Some(last) = last_object(hart) else {
+    let Some(finalised) = hart.finalised_object() else {
         unreachable!();
     };
-    match prepare(alloc, state, hart, last) {
+    match FinalTurn::prepare(alloc, state, hart, finalised) {
         Ok(plan) => by_events(plan),
         Err(_) => LastTurn::Asks(None),
     }
@@ -135,52 +123,6 @@ fn by_events(plan: FinalTurn) -> LastTurn
     } else {
         LastTurn::Quiet(plan)
     }
-}
-
-/// The object whose final destructors have run, if the hart's next turn is the one behind them.
-fn last_object(hart: &LinkedHart) -> Option<LastObject>
-    ensures last { IfSome result (λ last. (s : State) → due s hart.now.hart ≡ is_due.finalise last.code last.object) }
-    ensures none { IfNone result ((s : State) → is_finalising (due s hart.now.hart) ≡ false) }
-{
-    match hart.due() {
-        Due::Complete(purpose, object, _) => last_of(purpose, object),
-        _ => None,
-    }
-}
-
-/// An object, if its functions that have run are final destructors.
-fn last_of(purpose: &Purpose, object: Serial) -> Option<LastObject>
-    ensures last { IfSome result (λ last. (purpose_of purpose.now ≡ purpose_is.of_end last.code) × (object ≡ last.object)) }
-    ensures none { IfNone result (is_of_end (purpose_of purpose.now) ≡ false) }
-{
-    match purpose {
-        Purpose::End(code) => Some(LastObject {
-            code: *code,
-            object,
-        }),
-        _ => None,
-    }
-}
-
-/// The plan of the turn. This takes all memory that the turn needs.
-///
-/// # Errors
-///
-/// Want of memory.
-fn prepare(
-    alloc: Global,
-    state: &LinkState,
-    hart: &mut LinkedHart,
-    last: LastObject,
-) -> Result<FinalTurn, AllocError>
-    requires { IsTrue (has (after state.now.events).inits last.object) }
-    ensures planned { IfOk result (IsPlanned (after state.now.events)) }
-    ensures last { IfOk result (λ plan. (plan.code ≡ last.code) × (plan.object ≡ last.object)) }
-    ensures room { OnOk result (0 < hart.new.spare) }
-    ensures hart { hart.new.hart ≡ hart.old.hart }
-{
-    hart.make_room()?;
-    FinalTurn::plan(alloc, state, last.code, last.object)
 }
 
 /// A turn without an event: the linker isn't called.

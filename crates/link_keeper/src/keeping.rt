@@ -4,7 +4,7 @@ ghost use Rattle.std.specs.Prelude.{◌≡◌, ◌⊎◌, ◌≤◌, ◌<◌, fa
 ghost use Rattle.tls_blocks.specs.Blocks.{BlockTable};
 ghost use Rattle.hart_linker.specs.Between.{BlocksFit, HasHeard, Hears, IsBetweenTurns};
 ghost use Rattle.hart_linker.specs.Finals.{BeginsLast};
-ghost use Rattle.hart_moves.specs.Due.{due};
+ghost use Rattle.hart_moves.specs.Due.{due, is_finalising};
 ghost use Rattle.hart_moves.specs.Starting.{starting_registers};
 ghost use Rattle.history_calls.specs.Laws.{hart_of};
 ghost use Rattle.history_event.specs.declared.event.Event.{Event};
@@ -14,7 +14,7 @@ ghost use Rattle.history_state.specs.Owed.{times_ended};
 ghost use Rattle.history_state.specs.State.{State};
 ghost use Rattle.link_keeper.specs.Keeping.{IsClosed, LockKeeps};
 ghost use Rattle.link_keeper.specs.Settling.{SettlesFirst, SettlesOrRests};
-ghost use Rattle.hart_linker.specs.Serving.{EndsTurn, ServesTurn, WasRunning, is_asking, is_finalising};
+ghost use Rattle.hart_linker.specs.Serving.{EndsTurn, ServesTurn, WasRunning, is_asking};
 ghost use Rattle.word_rule.specs.Views.{BeginsWith};
 
 use crate::beginning::begin_finals;

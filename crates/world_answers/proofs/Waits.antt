@@ -1,5 +1,5 @@
 -- The next turn of a hart whose opening has come to another hart's object: it waits, or its call is made.
-use Rattle.std.proofs.Common.{◌≡◌, Bool, true, false, true≢false, cond, sym, ap, ◌∙◌}
+use Rattle.std.proofs.Common.{◌≡◌, Bool, true, false, true≢false, cond, sym, ap}
 use Rattle.ld_base.specs.declared.fault.Shown.{Shown}
 use Rattle.history_calls.specs.Call.{Call}
 use Rattle.hart_moves.specs.Due.{Due, Return}

@@ -24,7 +24,6 @@ mod carrying;
 mod ending;
 mod finals;
 mod guest_worlds;
-mod last;
 mod law;
 mod outcome;
 mod passing;

@@ -1,6 +1,6 @@
 //! What holds of each lawful history.
 
-ghost use Rattle.std.specs.Prelude.{ℕ, ◌≡◌, ◌<◌, List};
+ghost use Rattle.std.specs.Prelude.{ℕ, ◌<◌, List};
 ghost use Rattle.history_event.specs.declared.event.Event.{Event};
 ghost use Rattle.history_state.specs.After.{after};
 ghost use Rattle.history_state.specs.Allowed.{MayEnd};

@@ -1,5 +1,5 @@
 -- A hart that has ended is told of events: it stays between two turns.
-use Rattle.std.proofs.Common.{◌≡◌, ℕ, ◌≤◌, false, List, ◌++◌, None, Some, sym, ap, ◌∙◌, arith}
+use Rattle.std.proofs.Common.{◌≡◌, ◌≤◌, false, List, ◌++◌, None, Some, sym, ap, ◌∙◌, arith}
 use Rattle.history_event.specs.declared.event.Event.{Event}
 use Rattle.history_event.specs.declared.hart_end.HartEnd.{HartEnd}
 use Rattle.word_rule.specs.declared.view.HartView.{HartView}

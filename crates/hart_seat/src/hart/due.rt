@@ -1,6 +1,6 @@
 //! What a hart's next turn is.
 
-ghost use Rattle.std.specs.Prelude.{◌≡◌, ◌≢◌, ℕ, ◌+◌, ◌-◌, ◌<◌, ◌≤◌, List, [], None};
+ghost use Rattle.std.specs.Prelude.{◌≡◌, ◌≢◌, ℕ, ◌+◌, ◌-◌, ◌<◌, ◌≤◌, List, None};
 ghost use Rattle.history_state.specs.State.{State};
 ghost use Rattle.hart_moves.specs.Due.{back, by_phase, call_of, due, within_fuel};
 ghost use Rattle.hart_moves.specs.Due.{Due as is_due};

@@ -1,6 +1,6 @@
 //! Functions that the linker has a hart run.
 
-ghost use Rattle.std.specs.Prelude.{◌≡◌, ℕ, ◌<◌, ◌≤◌, [], ◌∷◌, List, drop, length};
+ghost use Rattle.std.specs.Prelude.{◌≡◌, ◌<◌, ◌≤◌, [], ◌∷◌, List, drop, length};
 ghost use Rattle.std.specs.List.{list_any};
 ghost use Rattle.history_event.specs.declared.handed.Function.{Function as function_value};
 ghost use Rattle.hart_moves.specs.Harts.Phase.{at_pc};

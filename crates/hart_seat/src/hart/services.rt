@@ -1,10 +1,9 @@
 //! What is due at the services of the linker's page.
 
-ghost use Rattle.std.specs.Prelude.{◌≡◌, ℕ};
+ghost use Rattle.std.specs.Prelude.{◌≡◌};
 ghost use Rattle.history_state.specs.State.{State};
-ghost use Rattle.hart_moves.specs.Due.{at_service, by_frames, by_name, by_phase, own_end};
+ghost use Rattle.hart_moves.specs.Due.{at_service, by_frames, by_name, by_phase};
 ghost use Rattle.hart_moves.specs.Harts.{Phase as phase_is};
-ghost use Rattle.history_calls.specs.Call.{stops};
 ghost use Rattle.hart_seat.specs.HartParts.Views.{due_in, naming_of, service_of};
 ghost use Rattle.hart_seat.specs.HartParts.Turns.{HasParts};
 

@@ -1,7 +1,6 @@
 -- Harts whose grants are settled one after another.
 use Rattle.std.proofs.Common.{◌≡◌, ℕ, zero, suc, ◌+◌, ◌<◌, List, [], ◌∷◌, ◌++◌, map, take, drop, length, get_or, refl, sym, ap, subst, ◌∙◌, append-nil, append_assoc, arith}
 use Rattle.history_event.specs.declared.event.Event.{Event}
-use Rattle.history_state.specs.Setting.{Setting}
 use Rattle.hart_moves.specs.Moves.{AreAllowed}
 use Rattle.hart_moves.specs.Lemmas.Legality.{allowed_split}
 use Rattle.hart_seat.specs.Table.{HartTable}

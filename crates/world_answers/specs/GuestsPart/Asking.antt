@@ -3,7 +3,7 @@ use Rattle.std.specs.Prelude.{◌≡◌, ℕ, ◌||◌, Bool, true, false, Optio
 use Rattle.std.specs.List.{slice_get}
 use Rattle.history_state.specs.After.{after}
 use Rattle.history_calls.specs.Call.{Call, opens, closes}
-use Rattle.hart_moves.specs.Due.{Due, due}
+use Rattle.hart_moves.specs.Due.{Due, due, is_finalising}
 use Rattle.hart_moves.specs.Harts.{HartState}
 use Rattle.world_answers.specs.Answers.{is_service, is_wait}
 use Rattle.world_answers.specs.ReturnsPart.Completing.{is_complete}
@@ -23,13 +23,9 @@ asks_linker d = is_called d || is_complete d
 abbrev pub AsksNothing : World → ℕ → Type 0
 AsksNothing world h = (b : HartState) → slice_get world.harts h ≡ Some b → asks_linker (due (after world.journal) b) ≡ false
 
--- the final destructors of an object have run
-abbrev pub is_final : Due → Bool
-is_final d = elim d [ Due.finalise code object ↦ true | _ ↦ false ]
-
 -- a turn that asks the linker, or the one behind the final destructors of an object
 abbrev pub needs_linker : Due → Bool
-needs_linker d = is_called d || (is_complete d || is_final d)
+needs_linker d = is_called d || (is_complete d || is_finalising d)
 
 -- the hart's next turn is one of these
 abbrev pub NeedsLinker : World → ℕ → Type 0

@@ -7,14 +7,13 @@ use Rattle.history_state.specs.After.{after}
 use Rattle.history_state.specs.State.{State}
 use Rattle.link_state.specs.Table.{LinkTable}
 use Rattle.rv_hart.specs.declared.doubleword.Doubleword.{Doubleword}
-use Rattle.hart_moves.specs.Due.{Due, due}
+use Rattle.hart_moves.specs.Due.{Due, due, is_finalising}
 use Rattle.hart_moves.specs.Harts.{HartState}
 use Rattle.hart_moves.specs.Moves.{Did, settles}
 use Rattle.hart_seat.specs.Table.{HartTable}
 use Rattle.world_answers.specs.GuestsPart.GuestWorlds.Worlds.{IsSomewhere, world_of}
 use Rattle.world_answers.specs.declared.guests.guest_worlds.turn.Turn.{Turn}
 use Rattle.world_answers.specs.declared.guests.guest_worlds.turn.Turn.TheVariants as turn
-use Rattle.world_answers.specs.GuestsPart.Asking.{is_final}
 use Rattle.world_answers.specs.ReturnsPart.Settling.{freed_in, harts_in}
 use Rattle.world_turns.specs.World.{settling}
 
@@ -35,7 +34,7 @@ IsLastOfAny harts h = (code : ℕ) × (object : ℕ) × IsLast harts h code obje
 
 -- it is another
 abbrev pub HasNoFinal : List Event → List HartState → ℕ → Type 0
-HasNoFinal events harts h = (b : HartState) × (slice_get harts h ≡ Some b) × (is_final (due (after events) b) ≡ false)
+HasNoFinal events harts h = (b : HartState) × (slice_get harts h ≡ Some b) × (is_finalising (due (after events) b) ≡ false)
 
 -- ---- how it is carried out
 

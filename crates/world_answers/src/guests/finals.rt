@@ -1,13 +1,10 @@
 //! Turns in which final destructors have run.
 
-ghost use Rattle.std.specs.Prelude.{◌≡◌, ◌<◌, List, length, IfNone, IfOk, IfSome, OnOk, OnSome, IsTrue};
-ghost use Rattle.world_answers.specs.ReturnsPart.FinalTurns.Planned.{IsPlanned};
+ghost use Rattle.std.specs.Prelude.{◌≡◌, ◌<◌, List, length, IfNone, IfSome, OnSome};
 ghost use Rattle.world_answers.specs.GuestsPart.GuestWorlds.Coming.{LeavesHart};
 ghost use Rattle.world_answers.specs.GuestsPart.GuestWorlds.Worlds.{TurnsOn, world_of};
 ghost use Rattle.world_answers.specs.GuestsPart.Last.{HasNoFinal, IsLastOfAny, IsSomewhereIn};
 ghost use Rattle.world_answers.specs.GuestsPart.Next.{NeverWaits, NextIsNoCall};
-ghost use Rattle.history_state.specs.After.{after};
-ghost use Rattle.history_state.specs.Objects.{has};
 ghost use Rattle.rv_hart.specs.declared.doubleword.Doubleword.{Doubleword};
 ghost use Rattle.world_answers.specs.ReturnsPart.Settling.{harts_in};
 
@@ -15,13 +12,12 @@ use crate::FinalTurn;
 use crate::guests::carrying::carry_out;
 use crate::guests::ending::end_hart;
 use crate::guests::guest_worlds::{Turn, guests_may_turn};
-use crate::guests::last::{LastObject, last_object};
 use crate::guests::law::ends_are_turns;
 use hart_seat::LinkedHart;
 use history_event::HartEnd;
 use ld_base::HartId;
 use link_state::LinkState;
-use std::alloc::{AllocError, Global};
+use std::alloc::Global;
 
 /// Takes the next turn of a hart, if it is the one in which the final destructors of an object have run. Where
 /// there is no memory for it the hart ends. Guest memory stays as it is. If it is another turn, nothing has
@@ -46,34 +42,13 @@ pub fn take_final(
 {
     guests_may_turn();
     let index = id.number() as usize;
-    let Some(last) = last_object(&harts[index]) else {
+    let Some(finalised) = harts[index].finalised_object() else {
         return None;
     };
-    match prepare(alloc, state, &mut harts[index], last) {
+    match FinalTurn::prepare(alloc, state, &mut harts[index], finalised) {
         Ok(plan) => Some(carry_out(plan, state, harts, id)),
         Err(_) => Some(lack_memory(state, harts, id)),
     }
-}
-
-/// What the turn comes to behind the destructors of an object. This takes all memory that it needs.
-///
-/// # Errors
-///
-/// Want of memory.
-fn prepare(
-    alloc: Global,
-    state: &LinkState,
-    hart: &mut LinkedHart,
-    last: LastObject,
-) -> Result<FinalTurn, AllocError>
-    requires { IsTrue (has (after state.now.events).inits last.object) }
-    ensures planned { IfOk result (IsPlanned (after state.now.events)) }
-    ensures last { IfOk result (λ plan. (plan.code ≡ last.code) × (plan.object ≡ last.object)) }
-    ensures room { OnOk result (0 < hart.new.spare) }
-    ensures hart { hart.new.hart ≡ hart.old.hart }
-{
-    hart.make_room()?;
-    FinalTurn::plan(alloc, state, last.code, last.object)
 }
 
 /// There is no memory for the turn: its hart ends.

@@ -1,7 +1,6 @@
 //! Settling.
 
 ghost use Rattle.std.specs.Prelude.{◌≡◌, ◌++◌, map};
-ghost use Rattle.hart_moves.specs.Moves.{freed};
 ghost use Rattle.world_answers.specs.ReturnsPart.Settling.{freed_in, harts_in};
 ghost use Rattle.world_memory.specs.TurnAnswers.Following.{MayFollowAll};
 ghost use Rattle.world_turns.specs.World.{settled_by, settling};

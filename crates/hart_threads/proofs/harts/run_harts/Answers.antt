@@ -4,7 +4,7 @@ use Rattle.history_state.specs.Owed.{times_ended}
 use Rattle.word_rule.specs.Views.{BeginsWith}
 use Rattle.hart_linker.specs.Between.{IsBetweenTurns}
 use Rattle.hart_moves.specs.Starting.{starting_registers}
-use Rattle.hart_threads.specs.Ends.{IsThrough, RanFirst, RanWhole}
+use Rattle.hart_threads.specs.Ends.{IsThrough, RanFirst}
 use Rattle.hart_threads.specs.Run.{RunsToEnd}
 use Rattle.hart_threads.proofs.Apart.{on_whole, ran_first}
 use Rattle.hart_threads.proofs.Hearing.{front_of, told_to_end}

@@ -8,11 +8,11 @@ pub unreachable-requires : goal.unreachable-requires
 unreachable-requires c = false≢true (sym (c.in_default.ensures.none (after c.args.state.now.events)) ∙ c.requires.last (after c.args.state.now.events))
 
 pub prepare-requires : goal.prepare-requires
-prepare-requires c = c.requires.initialised c.in-Some.last.code c.in-Some.last.object c.in-Some.ensures.last
+prepare-requires c = c.requires.initialised c.in-Some.finalised.code c.in-Some.finalised.object c.in-Some.ensures.finalised
 
 pub returns-in-Ok-clause-planned : goal.returns-in-Ok-clause-planned
 returns-in-Ok-clause-planned c = c.by_events.ensures (after c.args.state.now.events) c.args.hart.now.hart c.prepare.new.hart.spare (record {
   planned = c.in-Ok.ensures.planned;
-  is = λ t. c.in-Some.ensures.last t ∙ (λ i. Due.finalise (sym c.in-Ok.ensures.last.0 i) (sym c.in-Ok.ensures.last.1 i));
+  is = λ t. c.in-Some.ensures.finalised t ∙ (λ i. Due.finalise (sym c.in-Ok.ensures.finalised.0 i) (sym c.in-Ok.ensures.finalised.1 i));
   room = c.in-Ok.ensures.room;
 })

@@ -1,6 +1,6 @@
 //! The turn in which the destructors of an object have run.
 
-ghost use Rattle.std.specs.Prelude.{◌≡◌, ℕ, ◌==◌, ◌<◌, ◌≤◌, [], ◌∷◌, ◌++◌, drop, filter, if◌then◌else◌, length, map, take, IfOk, IsTrue};
+ghost use Rattle.std.specs.Prelude.{◌≡◌, ℕ, ◌==◌, ◌<◌, ◌≤◌, [], ◌∷◌, ◌++◌, drop, filter, if◌then◌else◌, length, map, take, IfOk, OnOk, IsTrue};
 ghost use Rattle.std.specs.List.{list_any};
 ghost use Rattle.history_state.specs.After.{after};
 ghost use Rattle.history_state.specs.Objects.{has};
@@ -12,7 +12,7 @@ ghost use Rattle.world_answers.specs.ReturnsPart.FinalTurns.Planned.{FinalsMayFo
 ghost use Rattle.world_answers.specs.ReturnsPart.FinalTurns.Table.{finis, plan_events};
 ghost use Rattle.world_memory.specs.TurnAnswers.Following.{MayFollowAll};
 
-use hart_seat::{LinkedHart, passed_objects};
+use hart_seat::{FinalisedObject, LinkedHart, passed_objects};
 use history_event::{Function, Functions};
 use history_state::initialised_once;
 use ld_base::{HartId, Serial, Serials};
@@ -41,18 +41,30 @@ impl Model for FinalTurn {
 }
 
 impl FinalTurn {
-    /// What the turn comes to in which the destructors of an object have run, at the end of a run that ended
-    /// with a code. This takes all memory that the turn needs but for the hart's room for functions.
+    /// What the turn comes to in which the final destructors of an object have run. This takes all memory that the
+    /// turn needs.
     ///
     /// # Errors
     ///
     /// Want of memory.
-    pub fn plan(
+    pub fn prepare(
         alloc: Global,
         state: &LinkState,
-        code: u64,
-        object: Serial,
+        hart: &mut LinkedHart,
+        finalised: FinalisedObject,
     ) -> Result<Self, AllocError>
+        requires { IsTrue (has (after state.now.events).inits finalised.object) }
+        ensures planned { IfOk result (IsPlanned (after state.now.events)) }
+        ensures finalised { IfOk result (λ plan. (plan.code ≡ finalised.code) × (plan.object ≡ finalised.object)) }
+        ensures room { OnOk result (0 < hart.new.spare) }
+        ensures hart { hart.new.hart ≡ hart.old.hart }
+    {
+        hart.make_room()?;
+        FinalTurn::plan(alloc, state, finalised.code, finalised.object)
+    }
+
+    /// The same but for the hart's room for functions.
+    fn plan(alloc: Global, state: &LinkState, code: u64, object: Serial) -> Result<Self, AllocError>
         requires initialised { IsTrue (has (after state.now.events).inits object) }
         ensures planned { IfOk result (IsPlanned (after state.now.events)) }
         ensures code { IfOk result (λ plan. plan.code ≡ code) }

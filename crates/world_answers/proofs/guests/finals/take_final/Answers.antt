@@ -19,8 +19,8 @@ returns-in_default-clause-other c = (
 pub prepare-requires : goal.prepare-requires
 prepare-requires c =
     (c.guests_may_turn.ensures.finals c.args.state.now.harts c.requires.run.1.0 c.requires.run.1.1 (world_of c.args.state.now c.requires.run.0 c.args.harts.now) c.args.id
-    (get_or c.args.harts.now c.number-index.result c.index-harts-index.result).hart c.in-Some.last.code c.in-Some.last.object c.requires.run.1.2
-    (read_at c.args.harts.now c.number-index.result c.args.id c.index-harts-index.result c.number-index.ensures c.requires.hart) (c.in-Some.ensures.last (after c.args.state.now.events))).initialised
+    (get_or c.args.harts.now c.number-index.result c.index-harts-index.result).hart c.in-Some.finalised.code c.in-Some.finalised.object c.requires.run.1.2
+    (read_at c.args.harts.now c.number-index.result c.args.id c.index-harts-index.result c.number-index.ensures c.requires.hart) (c.in-Some.ensures.finalised (after c.args.state.now.events))).initialised
 
 pub carry_out-requires-clause-run : goal.carry_out-requires-clause-run
 carry_out-requires-clause-run c = run_stays c.args.state.now c.args.harts.now c.number-index.result c.args.id c.index-harts-index-2.result c.number-index.ensures c.requires.hart c.prepare.new.hart c.in-Ok.ensures.hart c.requires.run
@@ -28,9 +28,9 @@ carry_out-requires-clause-run c = run_stays c.args.state.now c.args.harts.now c.
 pub carry_out-requires-clause-last : goal.carry_out-requires-clause-last
 carry_out-requires-clause-last c =
     is_last c.args.state.now c.args.harts.now c.number-index.result c.args.id c.index-harts-index-2.result c.number-index.ensures c.requires.hart c.prepare.new.hart c.in-Ok.ensures.hart
-    c.in-Ok.plan.code c.in-Ok.plan.object c.in-Some.last.code c.in-Some.last.object c.in-Ok.ensures.last.0 c.in-Ok.ensures.last.1
+    c.in-Ok.plan.code c.in-Ok.plan.object c.in-Some.finalised.code c.in-Some.finalised.object c.in-Ok.ensures.finalised.0 c.in-Ok.ensures.finalised.1
     (λ s. last_read c.args.harts.now c.number-index.result c.args.id c.index-harts-index.result c.index-harts-index-2.result c.number-index.ensures c.requires.hart
-    c.in-Some.last.code c.in-Some.last.object c.in-Some.ensures.last s)
+    c.in-Some.finalised.code c.in-Some.finalised.object c.in-Some.ensures.finalised s)
 
 pub carry_out-requires-clause-room : goal.carry_out-requires-clause-room
 carry_out-requires-clause-room c = has_room c.args.state.now c.args.harts.now c.number-index.result c.args.id c.index-harts-index-2.result c.number-index.ensures c.requires.hart c.prepare.new.hart c.in-Ok.ensures.hart c.in-Ok.ensures.room
@@ -50,12 +50,12 @@ lack_memory-requires-clause-run c = run_stays c.args.state.now c.args.harts.now 
 
 pub lack_memory-requires-clause-last : goal.lack_memory-requires-clause-last
 lack_memory-requires-clause-last c = (
-  c.in-Some.last.code,
-  c.in-Some.last.object,
+  c.in-Some.finalised.code,
+  c.in-Some.finalised.object,
   is_last c.args.state.now c.args.harts.now c.number-index.result c.args.id c.index-harts-index-2.result c.number-index.ensures c.requires.hart c.prepare.new.hart c.in-Err.ensures.hart
-      c.in-Some.last.code c.in-Some.last.object c.in-Some.last.code c.in-Some.last.object refl refl
+      c.in-Some.finalised.code c.in-Some.finalised.object c.in-Some.finalised.code c.in-Some.finalised.object refl refl
       (λ s. last_read c.args.harts.now c.number-index.result c.args.id c.index-harts-index.result c.index-harts-index-2.result c.number-index.ensures c.requires.hart
-      c.in-Some.last.code c.in-Some.last.object c.in-Some.ensures.last s),
+      c.in-Some.finalised.code c.in-Some.finalised.object c.in-Some.ensures.finalised s),
 )
 
 pub returns-in-Err-clause-turn : goal.returns-in-Err-clause-turn
@@ -73,11 +73,11 @@ returns-in-Ok-clause-no_call c = λ words.
     let old : World = world_of c.args.state.now words c.args.harts.now in
     next_is old c.args.id (get_or c.args.harts.now c.number-index.result c.index-harts-index.result).hart (λ past d. is_service d ≡ false)
     (read_at c.args.harts.now c.number-index.result c.args.id c.index-harts-index.result c.number-index.ensures c.requires.hart)
-    (ap is_service (c.in-Some.ensures.last (after (settled old).journal)))
+    (ap is_service (c.in-Some.ensures.finalised (after (settled old).journal)))
 
 pub returns-in-Err-clause-no_call : goal.returns-in-Err-clause-no_call
 returns-in-Err-clause-no_call c = λ words.
     let old : World = world_of c.args.state.now words c.args.harts.now in
     next_is old c.args.id (get_or c.args.harts.now c.number-index.result c.index-harts-index.result).hart (λ past d. is_service d ≡ false)
     (read_at c.args.harts.now c.number-index.result c.args.id c.index-harts-index.result c.number-index.ensures c.requires.hart)
-    (ap is_service (c.in-Some.ensures.last (after (settled old).journal)))
+    (ap is_service (c.in-Some.ensures.finalised (after (settled old).journal)))
