@@ -1,8 +1,7 @@
 //! What new objects choose.
 
-ghost use Rattle.std.specs.Prelude.{◌≡◌, ◌||◌, None, map, Contains, IfErr, IfOk};
+ghost use Rattle.std.specs.Prelude.{◌≡◌, ◌||◌, None, map, IfErr, IfOk};
 ghost use Rattle.std.specs.List.{AllByRecursion};
-ghost use Rattle.ld_base.specs.declared.linking.Loaded.{Loaded as LoadedObject};
 ghost use Rattle.history_state.specs.Bound.{place_of};
 ghost use Rattle.history_state.specs.Flags.{is_now};
 ghost use Rattle.history_state.specs.Relocating.{relocation_fault};
@@ -19,29 +18,10 @@ use history_event::{ChoiceLists, Module, OpenAsk};
 use history_journal::one_image;
 use ld_base::{Loaded, Serial};
 use link_lists::{is_global, is_now};
-use relocator::{ModulePlace, TlsPlaces};
+use link_spaces::module_places;
 use scope_rule::{View, opened_lists};
-use std::alloc::{AllocError, Global};
+use std::alloc::Global;
 use sym_lookup::tables_are_there;
-
-/// Where modules are.
-///
-/// # Errors
-///
-/// Want of memory.
-fn places_of(alloc: Global, modules: &[Module]) -> Result<TlsPlaces, AllocError>
-    ensures { IfOk result (λ places. places ≡ map place_of modules.now) }
-{
-    let mut places = TlsPlaces::new(alloc);
-    for module in modules {
-        places.push(ModulePlace {
-            serial: module.serial,
-            number: module.number,
-            offset: module.offset,
-        })?;
-    }
-    Ok(places)
-}
 
 /// What the relocations of new objects choose, among these modules.
 ///
@@ -68,7 +48,7 @@ pub(crate) fn choose_new(
     one_object();
     one_image();
     tables_are_there();
-    let places = places_of(alloc, modules)?;
+    let places = module_places(alloc, modules)?;
     let namespace = before.namespace;
     let lists = opened_lists(
         alloc,

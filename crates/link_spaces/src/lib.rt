@@ -6,12 +6,14 @@
 //!
 //! Beside namespaces stand the other lists that events change in place: reserved ranges, closings that wait,
 //! objects by serial (`object_holders`) and by address (`mapped_objects`), and the words of slots (`slot_words`).
+//! [`module_places`] lists where modules have their thread-local storage.
 #![tactic(auto)]
 
 mod dying;
 mod law;
 mod lowering;
 mod mapped_objects;
+mod modules;
 mod object_holders;
 mod opening;
 mod pending_closings;
@@ -26,6 +28,7 @@ pub use mapped_objects::{
     address_of, definition_in, has_object, home_in, is_code_in, leads_to_code, namespace_in,
     object_in,
 };
+pub use modules::module_places;
 pub use object_holders::holder_in;
 pub use opening::{empty_namespace, open_in};
 pub use pending_closings::{Pending, PendingClosings};

@@ -1,11 +1,10 @@
 -- What is known of an opening, over the lists that a linker has.
-use Rattle.std.proofs.Common.{◌≡◌, ℕ, ◌+◌, Bool, List, map, length, Some, refl, sym, ap, subst, ◌∙◌}
-use Rattle.std.specs.List.{Contains, slice_get}
+use Rattle.std.proofs.Common.{◌≡◌, ℕ, ◌+◌, Bool, List, map, sym, ap, subst, ◌∙◌}
+use Rattle.std.specs.List.{Contains}
 use Rattle.link_images.specs.declared.parts.Part.{Part}
 use Rattle.ld_base.specs.declared.linking.Choice.{Choice}
 use Rattle.ld_base.specs.declared.linking.Loaded.{Loaded}
 use Rattle.history_event.specs.declared.state.Module.{Module}
-use Rattle.history_state.specs.Accepted.{IsAccepted}
 use Rattle.history_state.specs.Bound.{place_of}
 use Rattle.history_state.specs.Objects.{is_startup}
 use Rattle.history_state.specs.State.{State, Statics}

@@ -1,19 +1,14 @@
 //! What an opening brings.
 
-ghost use Rattle.std.specs.Prelude.{◌≡◌, IfOk, OnOk, [], filter, length, map};
-ghost use Rattle.std.specs.List.{flat_map};
-ghost use Rattle.link_images.specs.Parts.{part_of};
+ghost use Rattle.std.specs.Prelude.{◌≡◌, IfOk};
 ghost use Rattle.history_journal.specs.Following.{MayFollow};
 ghost use Rattle.history_state.specs.After.{after};
 ghost use Rattle.history_state.specs.Objects.{is_startup};
-ghost use Rattle.history_state.specs.Step.{binds, seen_after};
+ghost use Rattle.history_state.specs.Step.{binds};
 ghost use Rattle.history_calls.specs.Served.{slots_of};
 ghost use Rattle.link_holds.specs.OpeningBrings.Brought.{AreChosenFor, AreModules, IsBrought, done};
-ghost use Rattle.link_open_images.specs.Relocated.{AreChoices, AreRelocated};
-ghost use Rattle.link_open_laws.specs.Laws.{image_made, places_after};
-ghost use Rattle.link_open_images.specs.OpeningSteps.Steps.{statics_of};
 
-use crate::opening_brings::images::{images_in, places_of};
+use crate::opening_brings::images::images_in;
 use crate::opening_brings::startup_areas::{areas_are_installed, areas_of, static_blocks_fit};
 use history_calls::Installs;
 use history_event::{Choices, OpenAsk, Range};
@@ -26,6 +21,7 @@ use link_open_laws::{
     new_images_are_prepared, new_modules_have_places, new_objects_are_placed, openings_relocate,
     relocated_are_installs, relocated_are_of_records,
 };
+use link_spaces::module_places;
 use scope_rule::Namespace;
 use std::alloc::{AllocError, Global};
 use tls_blocks::TlsModules;
@@ -94,7 +90,7 @@ pub fn prepare(
     areas_are_installed();
     let _ = journal.journal();
     let modules = modules_with(alloc, modules, startup, planned.added)?;
-    let places = places_of(alloc, modules.as_slice())?;
+    let places = module_places(alloc, modules.as_slice())?;
     let images = images_in(alloc, namespaces, planned, now, choices, &places)?;
     let edges = edges_of(alloc, planned.added, choices)?;
     let parts = parts_of(alloc, planned.added, images.as_slice())?;

@@ -1,38 +1,18 @@
 //! Images of new objects, over the namespace as the opening leaves it.
 
-ghost use Rattle.std.specs.Prelude.{◌≡◌, map, IfOk};
-ghost use Rattle.history_state.specs.Bound.{place_of};
+ghost use Rattle.std.specs.Prelude.{IfOk};
 ghost use Rattle.link_holds.specs.OpeningBrings.Brought.{seen_over, seen_with};
 ghost use Rattle.link_open_images.specs.Relocated.{AreChoices, AreRelocated, MayRelocateAll};
 
 use crate::opening_brings::bringing::Planned;
-use history_event::{Choices, Module};
+use history_event::Choices;
 use link_lists::is_global;
 use link_open_images::images_of;
 use link_spaces::{empty_namespace, namespace_in};
-use relocator::{ModulePlace, TlsPlaces};
+use relocator::TlsPlaces;
 use scope_rule::{Namespace, opened_lists};
 use seg_image::Images;
 use std::alloc::{AllocError, Global};
-
-/// Where modules are.
-///
-/// # Errors
-///
-/// Want of memory.
-pub fn places_of(alloc: Global, modules: &[Module]) -> Result<TlsPlaces, AllocError>
-    ensures { IfOk result (λ places. places ≡ map place_of modules.now) }
-{
-    let mut places = TlsPlaces::new(alloc);
-    for module in modules {
-        places.push(ModulePlace {
-            serial: module.serial,
-            number: module.number,
-            offset: module.offset,
-        })?;
-    }
-    Ok(places)
-}
 
 /// The images of new objects, relocated by what is seen in their namespace as the opening leaves it.
 ///

@@ -2,7 +2,6 @@
 
 ghost use Rattle.std.specs.Prelude.{◌≡◌, ◌<◌, ◌^◌, ◌==◌, if◌then◌else◌, length, Some, map, IfOk};
 ghost use Rattle.std.specs.Option.{option_copied};
-ghost use Rattle.ld_base.specs.declared.linking.Want.{Want as Wanted};
 ghost use Rattle.history_state.specs.Bound.{place_of};
 ghost use Rattle.history_state.specs.Relocating.{is_missing, missing_symbol, not_code, reloc_fault_by, slot_fault_by, version_of};
 ghost use Rattle.history_state.specs.State.{State};

@@ -1,6 +1,6 @@
 //! Modules of new objects.
 
-ghost use Rattle.std.specs.Prelude.{◌≡◌, ◌≤◌, ◌^◌, map, not, false, Contains, IfOk, IfSome, IsTrue, OnOk};
+ghost use Rattle.std.specs.Prelude.{◌≡◌, ◌≤◌, ◌^◌, map, not, false, Contains, IfOk, IfSome, OnOk};
 ghost use Rattle.ld_base.specs.declared.linking.Loaded.{Loaded as loaded};
 ghost use Rattle.history_state.specs.Opening.{unplaced};
 ghost use Rattle.history_state.specs.Storage.{HaveModules, IsPlaceOf, statics_with, statics_with_one, with_modules, with_place};

@@ -1,6 +1,6 @@
 //! Pages of what is wanted, and the bases that they give.
 
-ghost use Rattle.std.specs.Prelude.{◌≡◌, ℕ, ◌≤◌, length, map, Contains, IfErr, IfOk};
+ghost use Rattle.std.specs.Prelude.{◌≡◌, ◌≤◌, length, map, Contains, IfErr, IfOk};
 ghost use Rattle.ld_base.specs.declared.linking.Loaded.{Loaded as loaded};
 ghost use Rattle.history_state.specs.Areas.{AreBased, AreGiven};
 ghost use Rattle.seg_image.specs.Accepted.{Accepted};

@@ -1,6 +1,6 @@
 //! Pages that are wanted.
 
-ghost use Rattle.std.specs.Prelude.{◌≡◌, ℕ, ◌+◌, ◌<◌, [], ◌++◌, length, map, true, Contains, IfErr, IfOk, OnErr, OnOk};
+ghost use Rattle.std.specs.Prelude.{◌≡◌, ◌+◌, ◌<◌, ◌++◌, map, true, Contains, IfErr, IfOk, OnErr, OnOk};
 ghost use Rattle.std.specs.List.{range_with_len};
 ghost use Rattle.ld_base.specs.declared.linking.Loaded.{Loaded as loaded};
 ghost use Rattle.address_space.specs.Pages.{without};
@@ -41,7 +41,7 @@ pub(crate) struct Wanted {
 }
 
 impl Model for Wanted {
-    ghost use Rattle.std.specs.Prelude.{ℕ, ◌<◌};
+    ghost use Rattle.std.specs.Prelude.{◌<◌};
     ghost use Rattle.history_state.specs.Areas.{Area};
     ghost use Rattle.link_open_plan.specs.ObjectPlaces.Spots.{IsSound, where_of};
 

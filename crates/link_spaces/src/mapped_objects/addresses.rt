@@ -3,7 +3,7 @@
 ghost use Rattle.std.specs.Prelude.{◌≡◌};
 ghost use Rattle.std.specs.Prelude.{Some};
 ghost use Rattle.ld_base.specs.declared.linking.Choice.TheVariants.{Def};
-ghost use Rattle.history_state.specs.Addresses.{address, definition_address, is_code_in, is_code_of, is_linkers_page, leads_to_code, symbol_address};
+ghost use Rattle.history_state.specs.Addresses.{address, definition_address, is_code_in, is_code_of, leads_to_code, symbol_address};
 ghost use Rattle.history_state.specs.State.{State};
 ghost use Rattle.link_spaces.specs.ObjectHolders.Holders.{AllAccepted};
 ghost use Rattle.seg_image.specs.Accepted.{Accepted};

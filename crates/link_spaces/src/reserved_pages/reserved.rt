@@ -1,6 +1,6 @@
 //! The ranges and the free pages.
 
-ghost use Rattle.std.specs.Prelude.{◌≡◌, ℕ, ◌+◌, ◌<◌, ◌≤◌, [], ◌∷◌, ◌++◌, count_by, filter, length, not, IfErr, IfOk, OnErr, OnOk};
+ghost use Rattle.std.specs.Prelude.{◌≡◌, ℕ, ◌+◌, ◌<◌, ◌≤◌, [], ◌∷◌, ◌++◌, count_by, filter, not, IfErr, IfOk, OnErr, OnOk};
 ghost use Rattle.std.specs.Vec.{vec_capacity, vec_len};
 ghost use Rattle.address_space.specs.Pages.{AllFree, Fits, IsFirstFit, without};
 ghost use Rattle.history_state.specs.Areas.{free_pages};

@@ -1,6 +1,6 @@
 //! Words of an object by its own addresses.
 
-ghost use Rattle.std.specs.Prelude.{◌≡◌, ◌<◌, ◌≤◌, ◌^◌, nat_le, nat_lt, ◌&&◌};
+ghost use Rattle.std.specs.Prelude.{◌≡◌, ◌<◌, ◌^◌, ◌&&◌};
 ghost use Rattle.std.specs.Option.{option_copied};
 ghost use Rattle.history_state.specs.Addresses.{is_rx};
 ghost use Rattle.relocator.specs.Relocated.{moved_word};

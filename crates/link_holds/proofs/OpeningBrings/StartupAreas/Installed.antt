@@ -1,5 +1,5 @@
 -- The bytes of a hart's static area are those that were put there first.
-use Rattle.std.proofs.Common.{◌≡◌, ◌≢◌, ◌⊎◌, inl, inr, ⊎_elim, ℕ, ◌+◌, ◌-◌, ◌<◌, ◌≤◌, ◌&&◌, Bool, true, false, cond, eqb, List, [], ◌∷◌, ◌++◌, map, length, get_or, Option, Some, None, refl, sym, ap, subst, ◌∙◌, arith}
+use Rattle.std.proofs.Common.{◌≡◌, ◌≢◌, ◌⊎◌, inl, inr, ⊎_elim, ℕ, ◌+◌, ◌-◌, ◌<◌, ◌≤◌, ◌&&◌, Bool, true, false, cond, eqb, List, [], map, length, get_or, Option, Some, None, refl, sym, ap, subst, ◌∙◌, arith}
 use Rattle.std.specs.Prelude.{nat_le, nat_lt}
 use Rattle.std.specs.List.{Contains, find, range_with_len, slice_get}
 use Rattle.std.specs.Option.{option_and_then, option_map, option_map_or}
@@ -17,19 +17,19 @@ use Rattle.history_event.specs.declared.state.Block.{Block}
 use Rattle.history_event.specs.declared.state.Module.{Module}
 use Rattle.history_state.specs.Flags.{is_global}
 use Rattle.history_state.specs.Laws.{IsIn, IsModule, ModulesAreTidy, StaticsAreApart}
-use Rattle.history_state.specs.Memory.{block_byte, covers, image_of, is_in_block, segment_byte, storage_byte}
+use Rattle.history_state.specs.Memory.{block_byte, image_of, is_in_block, segment_byte, storage_byte}
 use Rattle.history_state.specs.Objects.{serial_of}
 use Rattle.history_state.specs.Read.{IsUntouched}
 use Rattle.history_state.specs.State.{Linked, State, empty_namespace}
 use Rattle.history_state.specs.Step.{loaded, open_done}
-use Rattle.history_state.specs.Storage.{is_static_area, late_block, module_of, module_of_place, tls_block, tp_of}
+use Rattle.history_state.specs.Storage.{late_block, module_of, module_of_place, tls_block, tp_of}
 use Rattle.history_state.specs.Lemmas.Imaged.{objects_open}
 use Rattle.history_state.specs.Lemmas.Lists.{found_in, none_in, not_found, only_in}
 use Rattle.link_open_laws.specs.Laws.{CanBePlaced, image_made}
 use Rattle.scope_rule.specs.declared.namespace.Namespace.{Namespace}
 use Rattle.link_holds.specs.OpeningBrings.StartupAreas.Blocks.{HoldBlocks, IsBlock, static_offset}
 use Rattle.link_holds.specs.OpeningBrings.StartupAreas.Laws.{parts_made}
-use Rattle.link_holds.proofs.OpeningBrings.StartupAreas.New.{IsNew, KeptCounts, new_block, new_in, part_at, serials_differ}
+use Rattle.link_holds.proofs.OpeningBrings.StartupAreas.New.{IsNew, KeptCounts, new_block, part_at, serials_differ}
 use Rattle.link_holds.proofs.OpeningBrings.StartupAreas.Written.{same_block}
 
 -- ---- bytes by their place

@@ -1,5 +1,5 @@
 -- The static blocks of new objects, in the state after their opening.
-use Rattle.std.proofs.Common.{◌≡◌, ◌≢◌, ◌⊎◌, inl, inr, ⊎_elim, ℕ, zero, suc, ◌+◌, ◌<◌, ◌≤◌, Bool, true, false, List, [], ◌∷◌, map, length, Option, Some, None, refl, sym, ap, subst, ◌∙◌, arith}
+use Rattle.std.proofs.Common.{◌≡◌, ◌≢◌, ◌⊎◌, inl, inr, ⊎_elim, ℕ, zero, suc, ◌+◌, ◌≤◌, List, [], ◌∷◌, map, length, Option, Some, None, refl, sym, ap, ◌∙◌, arith}
 use Rattle.std.specs.List.{Contains, range_with_len, slice_get}
 use Rattle.std.specs.Option.{is_some, option_and_then}
 use Rattle.std.proofs.lemmas.Bool.{true≢false}
@@ -14,12 +14,12 @@ use Rattle.history_state.specs.Flags.{is_global}
 use Rattle.history_state.specs.Laws.{HasStatic, IsIn, ModulesAreTidy, StaticsAreApart}
 use Rattle.history_state.specs.Objects.{serial_of}
 use Rattle.history_state.specs.State.{Linked, State}
-use Rattle.history_state.specs.Step.{loaded, open_done, with_namespace}
+use Rattle.history_state.specs.Step.{loaded, open_done}
 use Rattle.history_state.specs.Lemmas.Imaged.{reached_open}
 use Rattle.history_state.specs.Lemmas.Lists.{at_in}
 use Rattle.link_open_laws.specs.Laws.{CanBePlaced, image_made}
 use Rattle.scope_rule.specs.declared.namespace.Namespace.{Namespace}
-use Rattle.link_holds.specs.OpeningBrings.StartupAreas.Blocks.{FitBlocks, IsBlock, static_offset}
+use Rattle.link_holds.specs.OpeningBrings.StartupAreas.Blocks.{FitBlocks, IsBlock}
 use Rattle.link_holds.specs.OpeningBrings.StartupAreas.Laws.{parts_made, statics_then}
 
 map_at : {X Y : Type 0} (f : X → Y) (xs : List X) (k : ℕ) (x : X) → slice_get xs k ≡ Some x → slice_get (map f xs) k ≡ Some (f x)

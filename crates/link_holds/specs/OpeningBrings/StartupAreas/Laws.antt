@@ -1,5 +1,5 @@
 -- What holds of the areas of an opening.
-use Rattle.std.specs.Prelude.{◌≡◌, ℕ, ◌+◌, ◌*◌, ◌≤◌, ◌^◌, List, filter, length, map, Contains, IsTrue}
+use Rattle.std.specs.Prelude.{ℕ, ◌+◌, ◌*◌, ◌≤◌, ◌^◌, List, filter, map, Contains, IsTrue}
 use Rattle.link_images.specs.Parts.{part_of}
 use Rattle.link_images.specs.declared.parts.Part.{Part}
 use Rattle.ld_base.specs.declared.linking.Loaded.{Loaded}

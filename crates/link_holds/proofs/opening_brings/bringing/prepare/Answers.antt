@@ -1,23 +1,19 @@
-use Rattle.std.proofs.Common.{◌≡◌, ℕ, ◌+◌, Bool, List, length, map, refl, sym, ap, subst, ◌∙◌}
+use Rattle.std.proofs.Common.{◌≡◌, ℕ, ◌+◌, Bool, length, map, refl, sym, ap, subst, ◌∙◌}
 use Rattle.std.specs.List.{filter}
 use Rattle.std.proofs.lemmas.List.{length-map}
-use Rattle.ld_base.specs.declared.linking.Choice.{Choice}
-use Rattle.ld_base.specs.declared.linking.Loaded.{Loaded}
 use Rattle.history_state.specs.After.{after}
 use Rattle.history_state.specs.Bound.{place_of}
-use Rattle.history_state.specs.State.{State, Statics}
-use Rattle.history_state.specs.Objects.{is_startup}
+use Rattle.history_state.specs.State.{State}
 use Rattle.history_state.specs.Step.{binds, has_module, loaded}
 use Rattle.history_state.specs.Storage.{with_modules}
 use Rattle.link_holds.specs.OpeningBrings.Brought.{seen_of}
 use Rattle.link_holds.specs.declared.opening_brings.bringing.Planned.{Planned}
 use Rattle.link_open_images.specs.Relocated.{AreChoices, AreRelocated}
-use Rattle.link_open_laws.specs.Laws.{CanBePlaced, image_made}
+use Rattle.link_open_laws.specs.Laws.{image_made}
 use Rattle.link_images.specs.Parts.{part_of}
 use Rattle.link_holds.specs.OpeningBrings.StartupAreas.Laws.{statics_then}
-use Rattle.link_open_images.specs.OpeningSteps.Steps.{AreOfRecords, statics_after, statics_of}
+use Rattle.link_open_images.specs.OpeningSteps.Steps.{AreOfRecords, statics_of}
 use Rattle.link_open_images.specs.ObjectBindings.Bindings.{CanRead}
-use Rattle.relocator.specs.declared.binding.ModulePlace.{ModulePlace}
 use Rattle.link_holds.proofs.OpeningBrings.Facts.{areas_there, can_read, choices_there, fit_there, have_there, may_there, parts_of, places_of, places_there, relocated_there, statics_there}
 use Rattle.link_holds.proofs.opening_brings.bringing.prepare.Goals as goal
 

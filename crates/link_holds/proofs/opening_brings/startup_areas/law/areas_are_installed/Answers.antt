@@ -1,11 +1,10 @@
-use Rattle.std.proofs.Common.{◌≡◌, ℕ, ◌+◌, Bool, true, false, ◌++◌, ◌∷◌, [], List, length, map, Option, Some, refl, sym, ap, subst, ◌∙◌}
+use Rattle.std.proofs.Common.{◌≡◌, ℕ, ◌+◌, Bool, true, false, ◌++◌, ◌∷◌, [], List, length, map, Option, refl, sym, ap, subst, ◌∙◌}
 use Rattle.std.specs.List.{Contains, filter, find, range_with_len}
 use Rattle.std.specs.Option.{option_map_or}
 use Rattle.std.proofs.lemmas.Bool.{and_parts, leb-true, true≢false}
 use Rattle.std.proofs.lemmas.List.Elements.{Contains-append_right}
 use Rattle.link_open_images.specs.AreaImages.Areas.{IsArea, byte_among}
 use Rattle.history_journal.specs.Following.{machine_of}
-use Rattle.ld_base.specs.declared.linking.Loaded.{Loaded}
 use Rattle.history_event.specs.declared.event.Event.{Event}
 use Rattle.history_event.specs.declared.event.Event.TheVariants.{Open}
 use Rattle.history_event.specs.declared.event.OpenAnswer.TheVariants.{Done}
@@ -27,7 +26,7 @@ use Rattle.history_state.specs.Lemmas.History.{after_push, lawful_push}
 use Rattle.history_state.specs.Lemmas.Lists.{from_filter, none_in}
 use Rattle.history_calls.specs.Served.{AreImages, AreWordsOf, is_area}
 use Rattle.seg_image.specs.declared.image.Image.{Image}
-use Rattle.link_holds.specs.OpeningBrings.StartupAreas.Areas.{AreAreas, HaveBlocks, filling}
+use Rattle.link_holds.specs.OpeningBrings.StartupAreas.Areas.{AreAreas, filling}
 use Rattle.link_holds.specs.OpeningBrings.StartupAreas.Laws.{parts_made, statics_then}
 use Rattle.link_holds.proofs.OpeningBrings.StartupAreas.Filled.{are_images}
 use Rattle.link_holds.proofs.OpeningBrings.StartupAreas.Given.{none_later, static_found}

@@ -1,13 +1,11 @@
-use Rattle.std.proofs.Common.{◌≡◌, ◌+◌, ◌*◌, ◌<◌, ◌≤◌, ◌^◌, ◌++◌, ◌∷◌, [], true, List, length, map, ap, subst, arith}
-use Rattle.std.specs.List.{Contains, range_with_len}
+use Rattle.std.proofs.Common.{◌≡◌, ◌+◌, ◌++◌, ◌∷◌, [], length, map, subst, arith}
+use Rattle.std.specs.List.{range_with_len}
 use Rattle.std.proofs.lemmas.List.Elements.{Contains-append_right}
 use Rattle.address_space.specs.Pages.{IsGuestRange}
 use Rattle.history_journal.specs.Following.{machine_of}
-use Rattle.ld_base.specs.declared.linking.Loaded.{Loaded}
 use Rattle.history_event.specs.declared.event.Event.{Event}
 use Rattle.history_event.specs.declared.event.Event.TheVariants.{Open}
 use Rattle.history_event.specs.declared.event.OpenAnswer.TheVariants.{Done}
-use Rattle.history_event.specs.declared.event.Range.{Range}
 use Rattle.history_state.specs.After.{after}
 use Rattle.history_state.specs.Laws.{ModulesAreTidy, RangesAreApart, StaticsAreApart}
 use Rattle.history_state.specs.Legal.{Lawful}
@@ -15,7 +13,6 @@ use Rattle.history_state.specs.Objects.{serial_of}
 use Rattle.history_state.specs.State.{State}
 use Rattle.history_state.specs.Step.{loaded, open_done}
 use Rattle.history_state.specs.Lemmas.History.{after_push, lawful_push}
-use Rattle.history_calls.specs.Served.{is_area}
 use Rattle.link_holds.proofs.OpeningBrings.StartupAreas.Given.{some_pages}
 use Rattle.link_holds.proofs.OpeningBrings.StartupAreas.New.{blocks_fit}
 use Rattle.link_holds.proofs.opening_brings.startup_areas.law.static_blocks_fit.Goals as goal

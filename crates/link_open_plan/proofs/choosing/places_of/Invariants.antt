@@ -1,7 +1,0 @@
-use Rattle.std.proofs.Common.{◌≡◌, map, take}
-use Rattle.history_state.specs.Bound.{place_of}
-use Rattle.link_open_plan.proofs.choosing.places_of.Given as goal
-
--- those of the modules in front
-abbrev pub invariant-loop-module : goal.invariant-loop-module
-invariant-loop-module l = l.places ≡ map place_of (take l.module-index l.modules)
