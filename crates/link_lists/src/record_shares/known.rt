@@ -3,7 +3,7 @@
 ghost use Rattle.std.specs.Prelude.{◌≡◌, IfOk};
 
 use crate::record_copies::Copied;
-use crate::record_shares::same::are_same;
+use crate::record_shares::same::{Same, are_same};
 use crate::record_shares::shape::Shape;
 use crate::record_shares::sharing::Sharing;
 use indexmap::IndexMap;
@@ -62,13 +62,20 @@ impl KnownObjects {
         Ok(loaded)
     }
 
-    /// What is known of this shape with the same segments: all its lists stand in them.
+    /// What is known of this shape with the same segments: all its lists stand in them. Most objects of one shape
+    /// differ in their names, which are compared first.
     fn find(&self, shape: &Shape, object: &Object) -> Option<&Known> {
-        let segments = object.segments.as_slice();
-        self.by_shape.get(shape)?.iter().find(|known| are_same(
-            known.object.segments.as_slice(),
+        let Object {
+            soname,
+            needed,
             segments,
-        ))
+            ..
+        } = object;
+        self.by_shape.get(shape)?.iter().find(|known| {
+            known.object.soname.is_same(soname)
+                && are_same(known.object.needed.as_slice(), needed.as_slice())
+                && are_same(known.object.segments.as_slice(), segments.as_slice())
+        })
     }
 
     /// Notes an object of this shape.

@@ -35,6 +35,16 @@ impl Same for Name {
     }
 }
 
+impl Same for Option<Name> {
+    fn is_same(&self, other: &Self) -> bool {
+        match (self, other) {
+            (Some(one), Some(two)) => one.is_same(two),
+            (None, None) => true,
+            _ => false,
+        }
+    }
+}
+
 impl Same for Segment {
     fn is_same(&self, other: &Self) -> bool {
         self.vaddr == other.vaddr
