@@ -1,5 +1,5 @@
 -- What an opening brings.
-use Rattle.std.proofs.Common.{◌≡◌, ◌-◌, IfOk, OnOk, Result, Ok, Err, List, sym, ap, subst, ◌∙◌}
+use Rattle.std.proofs.Common.{◌≡◌, IfOk, OnOk, Result, Ok, Err, List, sym, ap, subst, ◌∙◌}
 use Rattle.ld_base.specs.declared.linking.Loaded.{Loaded}
 use Rattle.history_event.specs.declared.event.Range.{Range}
 use Rattle.link_images.specs.ImageReads.Reads.{ArePrepared}

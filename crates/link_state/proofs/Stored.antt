@@ -1,5 +1,5 @@
 -- Blocks of thread-local storage, in the words of the calls.
-use Rattle.std.proofs.Common.{◌≡◌, ℕ, ◌+◌, ◌-◌, ◌<◌, true, false, List, [], ◌∷◌, ◌++◌, map, Option, Some, None, Result, Ok, Err, IfErr, IfOk, refl, sym, ap, subst, ◌∙◌, arith}
+use Rattle.std.proofs.Common.{◌≡◌, ℕ, ◌+◌, ◌-◌, ◌<◌, true, List, [], ◌∷◌, ◌++◌, map, Option, Some, None, Result, Ok, Err, IfErr, IfOk, refl, sym, ap, subst, ◌∙◌, arith}
 use Rattle.std.specs.Prelude.{◌==◌, find, IsSome}
 use Rattle.std.specs.Result.{IsErrAnd}
 use Rattle.std.proofs.lemmas.Bool.{eq-eqb, eqb-true, true≢false}
@@ -25,7 +25,7 @@ use Rattle.history_state.specs.Laws.{FindsImage, IsIn}
 use Rattle.history_state.specs.Legal.{Lawful}
 use Rattle.history_state.specs.Lookup.{HasNoBlock, MayHaveBlock}
 use Rattle.history_state.specs.Memory.{image_of}
-use Rattle.history_state.specs.Objects.{has, mapped, object_at}
+use Rattle.history_state.specs.Objects.{mapped, object_at}
 use Rattle.history_state.specs.State.{Linked, State}
 use Rattle.history_state.specs.Step.{add_block, block_range, block_ranges}
 use Rattle.history_state.specs.Storage.{block_pages, module_of, residue, tls_block}

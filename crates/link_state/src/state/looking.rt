@@ -1,7 +1,6 @@
 //! Look-ups of symbols.
 
 ghost use Rattle.std.specs.Prelude.{◌≡◌, ◌<◌, None, IfErr, IfOk, IsTrue, OnErr};
-ghost use Rattle.history_event.specs.declared.event.Event.TheVariants.{Sym};
 ghost use Rattle.history_event.specs.declared.event.SymAnswer.TheVariants.{Found};
 ghost use Rattle.history_state.specs.After.{after};
 ghost use Rattle.history_state.specs.Lookup.{IsShort, MayAnswer, wanted_of};
