@@ -91,9 +91,6 @@ turns_read one words turns reads before after unread = by (told (commands.Turns 
 
 -- ---- words that are none
 
-pub no_command : (words : List (List ℕ)) → ((command : Command) → Reads words command → ⊥) → {P : Option Command → Type 0} → P None → OfAsked words P
-no_command words none holds = record { asked = None; asks = λ command reads can. absurd (none command reads); holds = holds }
-
 pub along : (words words' : List (List ℕ)) → words ≡ words' → {P Q : Option Command → Type 0} → ((command : Option Command) → P command → Q command) → OfAsked words P → OfAsked words' Q
 along words words' same goes of = record { asked = of.asked; asks = subst (λ (ws : List (List ℕ)). Asks ws of.asked) same of.asks; holds = goes of.asked of.holds }
 

@@ -35,7 +35,7 @@ use Rattle.ldso_cli.specs.Bind.{BindComes, IsLoaded, IsNotLoaded, cause_of, name
 use Rattle.ldso_cli.specs.Command.{CommandAnswers, IsAnswer, OverFiles, ReadsWell}
 use Rattle.ldso_cli.specs.Complete.{AreFilesOf, CanBeAssembled, CanBeBound, CanBeDumped, FilesSuffice, IsDone, RanToItsEnd}
 use Rattle.ldso_cli.specs.Dump.{DumpComes, ReadsAs, dump_cause}
-use Rattle.ldso_cli.specs.End.{kept_end, told_end}
+use Rattle.ldso_cli.specs.End.{kept_end, end_with_trails}
 use Rattle.ldso_cli.specs.Generate.{set_at, set_cause, set_setup}
 use Rattle.ldso_cli.specs.Laws.{AnswersComplete}
 use Rattle.ldso_cli.specs.Outside.{LibraryAt}
@@ -132,7 +132,7 @@ module _ (laws : Laws) where
 
   threads_to_end : (setup : Setup) (before after : LibraryAt) (ended : Result RunEnd DlFault) (left : RunRecord) (trails : Option KeeperView) (own : End) (files : List File)
       → before.files ≡ Some files → (Rises before.faults after.faults → ⊥) → CanStart (run_of setup (Some files)) setup
-      → ComesToEnd (RunsOnThreads setup before.files ended left trails) setup before after ended left → own ≡ told_end (run_cause ended) left trails → RanToItsEnd causes.Ran own
+      → ComesToEnd (RunsOnThreads setup before.files ended left trails) setup before after ended left → own ≡ end_with_trails (run_cause ended) left trails → RanToItsEnd causes.Ran own
   threads_to_end setup before after ended left trails own files told still may comes is =
       let may_start : CanStart (run_of setup before.files) setup = subst (λ (fs : Option (List File)). CanStart (run_of setup fs) setup) (sym told) may in
       let run = has_come laws.starts (RunsOnThreads setup before.files ended left trails) setup before after files ended left told still may_start comes in

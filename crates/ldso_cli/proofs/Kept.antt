@@ -33,7 +33,7 @@ use Rattle.world_laws.specs.WorldWhole.Laws.{RunsAreWhole}
 use Rattle.world_threads.specs.Slots.{RunsEndSlots}
 use Rattle.ldso_cli.proofs.Turning.{Accepts}
 use Rattle.ldso_cli.specs.Command.{CommandAnswers}
-use Rattle.ldso_cli.specs.End.{bare, told_end}
+use Rattle.ldso_cli.specs.End.{bare, end_with_trails}
 use Rattle.ldso_cli.specs.Generate.{set_at, set_cause, set_setup}
 use Rattle.ldso_cli.specs.Headline.{HasRun, HasRunOnThreads, Headline, IsHistory, IsHistoryOfThreads, IsKept}
 use Rattle.ldso_cli.specs.Laws.{AnswersAreHistories}
@@ -161,10 +161,10 @@ module _ (laws : RunLaws) (setup : Setup) (before after : LibraryAt) (ended : Re
   threads_ran : IsNotRun setup before.files ended left ⊎ Runs → (left.ends ≡ [] → ⊥) → HasRunOnThreads setup before.files left trails
   threads_ran (inl p) some = absurd (some p.leaves.no_ends)
   threads_ran (inr p) some = record {
-    told = p.told;
+    view = p.view;
     trails_are = p.trails_are;
     is = p.is;
-    slots = laws.slots w setup left p.told p.is;
+    slots = laws.slots w setup left p.view p.is;
     moments = λ k. laws.moments w (take k left.journal.events) (laws.accepts w.machine refl) (legal_take w left.journal.events k p.is.legal);
   }
 
@@ -173,14 +173,14 @@ module _ (laws : RunLaws) (setup : Setup) (before after : LibraryAt) (ended : Re
   threads_refused (inr p) none = absurd (threads_end setup before.files ended left trails p none)
 
   threads_history : ComesToEnd Runs setup before after ended left → (left.ends ≡ [] → trails ≡ None) → IsHistoryOfThreads setup before after left trails
-  threads_history comes untold = record {
+  threads_history comes none = record {
     is = record {
       legal = threads_legal comes.is;
       ran = threads_ran comes.is;
       refused = threads_refused comes.is;
       runs = λ files told still may. threads_end setup before.files ended left trails (has_come laws.starts Runs setup before after files ended left told still may comes);
     };
-    untold = untold;
+    no_trails = none;
   }
 
 -- ---- gen
@@ -197,7 +197,7 @@ of_set laws files misses ended left plays =
 nothing_kept : (command : Option Command) (before after : LibraryAt) (own : End) (cause : Cause) → own ≡ bare cause → Headline command before after own
 nothing_kept command before after own cause is = subst (Headline command before after) (sym is) refl
 
-kept : (command : Command) (before after : LibraryAt) (own : End) (cause : Cause) (left : RunRecord) (trails : Option KeeperView) → own ≡ told_end cause left trails
+kept : (command : Command) (before after : LibraryAt) (own : End) (cause : Cause) (left : RunRecord) (trails : Option KeeperView) → own ≡ end_with_trails cause left trails
     → IsKept command before after left trails → Headline (Some command) before after own
 kept command before after own cause left trails is holds = subst (Headline (Some command) before after) (sym is) holds
 
@@ -211,7 +211,7 @@ of_command laws (commands.Assemble path) before after own text over =
 of_command laws (commands.Turns turns) before after own text comes = kept (commands.Turns turns) before after own (run_cause comes.ended) comes.left None comes.end_is
     (record { items = comes.items; says = comes.says; is = is_history laws turns.setup comes.items before after comes.ended comes.left comes.plays }, refl)
 of_command laws (commands.Run run) before after own text comes = kept (commands.Run run) before after own (run_cause comes.ended) comes.left comes.trails comes.end_is
-    (threads_history laws run.setup before after comes.ended comes.left comes.trails comes.run.comes comes.run.untold)
+    (threads_history laws run.setup before after comes.ended comes.left comes.trails comes.run.comes comes.run.no_trails)
 of_command laws (commands.Check check) before after own text comes =
     nothing_kept (Some (commands.Check check)) before after own comes.cause comes.end_is
 of_command laws (commands.Generate number) before after own text comes = kept (commands.Generate number) before after own (set_cause comes.ended) comes.left None comes.end_is (

@@ -24,9 +24,9 @@ use Rattle.world_threads.specs.Threaded.{IsThreaded, left_events}
 use Rattle.world_threads.specs.declared.run.Ran.{Ran}
 use Rattle.world_turns.specs.Counts.{ShowInCounts}
 use Rattle.ldso_cli.specs.Outside.{LibraryAt, counts_in}
-use Rattle.ldso_cli.specs.End.{told_end}
+use Rattle.ldso_cli.specs.End.{end_with_trails}
 use Rattle.ldso_cli.specs.Played.{IsNotRun, last_line, run_cause}
-use Rattle.ldso_cli.specs.Threads.{ComesOnThreads, EndsOnThreads, HasEnds, IsUntold, RunComes, RunLeaves, RunsOnThreads, printed_of}
+use Rattle.ldso_cli.specs.Threads.{ComesOnThreads, EndsOnThreads, HasEnds, RefusesStart, RunComes, RunLeaves, RunsOnThreads, printed_of}
 use Rattle.ldso_cli.specs.declared.answer.Answer.{Answer}
 use Rattle.ldso_cli.specs.declared.threads.Threaded.{Threaded}
 
@@ -47,7 +47,7 @@ module _ (setup : Setup) (before after : LibraryAt) (ended : Result RunEnd DlFau
   ran_comes ran is ends shows = record {
     comes = record {
       is = inr (record {
-        told = ran.trails;
+        view = ran.trails;
         trails_are = ends.trails_are;
         is = subst (λ (r : RunRecord). IsThreaded (run_of setup before.files) setup r ran.trails) (sym ends.left_is) is;
         run_end = ends.run_end;
@@ -58,27 +58,27 @@ module _ (setup : Setup) (before after : LibraryAt) (ended : Result RunEnd DlFau
       missing = λ name e. absurd (other (dl.MissingLibrary name) e);
       counted = subst (λ (r : RunRecord). ShowInCounts setup.folders r.journal.events (counts_in before) (counts_in after)) (sym ends.left_is) shows;
     };
-    untold = λ none. absurd (no_end ends.run_end (subst (λ (es : List HartEnd). IsRunEnd es ends.run_end) none ends.decides));
+    no_trails = λ none. absurd (no_end ends.run_end (subst (λ (es : List HartEnd). IsRunEnd es ends.run_end) none ends.decides));
   }
     where
       other : (fault : DlFault) → ended ≡ Err fault → ⊥
       other fault e = (let no : Ok ends.run_end ≡ Err fault = sym ends.ended_is ∙ e in cc no)
 
-  refusal_comes : (fault : DlFault) (events : List Event) → FailsToStart (run_of setup before.files) setup fault events → IsUntold fault events ended left trails
+  refusal_comes : (fault : DlFault) (events : List Event) → FailsToStart (run_of setup before.files) setup fault events → RefusesStart fault events ended left trails
       → ShowsInCounts (ArePathsAtStart setup.folders setup.program) (Some fault) before.faults after.faults before.misses after.misses
       → ShowInCounts setup.folders events (counts_in before) (counts_in after) → ComesOnThreads setup before after ended left trails
-  refusal_comes fault events fails untold counts shows = record {
+  refusal_comes fault events fails refused counts shows = record {
     comes = record {
-      is = inl (record { fault = fault; events = events; fails = fails; leaves = untold.leaves });
+      is = inl (record { fault = fault; events = events; fails = fails; leaves = refused.leaves });
       read_fault = λ path e. counts.failed path (ap Some (same (dl.ReadFault path) e));
       missing = λ name e. counts.missed name (ap Some (same (dl.MissingLibrary name) e));
-      counted = subst (λ (es : List Event). ShowInCounts setup.folders es (counts_in before) (counts_in after)) (sym untold.leaves.journal) shows;
+      counted = subst (λ (es : List Event). ShowInCounts setup.folders es (counts_in before) (counts_in after)) (sym refused.leaves.journal) shows;
     };
-    untold = λ none. untold.none;
+    no_trails = λ none. refused.none;
   }
     where
       same : (other : DlFault) → ended ≡ Err other → fault ≡ other
-      same other e = (let one : Err fault ≡ Err other = sym untold.leaves.ended_is ∙ e in cc)
+      same other e = (let one : Err fault ≡ Err other = sym refused.leaves.ended_is ∙ e in cc)
 
   pub comes_on_threads : (ran : Result Ran StartFault) → IfOk ran (λ r. IsThreaded (run_of setup before.files) setup r.left r.trails)
       → IfErr ran (IsNotStarted (run_of setup before.files) setup)
@@ -109,7 +109,7 @@ come_legal fails setup before after ended left trails comes = by comes.comes.is
 
 -- the answer of a run
 pub run_answers : (run : Run) (before after : LibraryAt) (t : Threaded) (r : Result Answer AllocError) → ComesOnThreads run.setup before after t.played.ended t.played.left t.trails
-    → IfOk r (λ a. a.end ≡ told_end (run_cause t.played.ended) t.played.left t.trails)
+    → IfOk r (λ a. a.end ≡ end_with_trails (run_cause t.played.ended) t.played.left t.trails)
     → IfOk r (λ a. a.text ≡ printed_of run.trace t.played.left.journal.events ++ last_line t.played.ended) → IfOk r (λ a. RunComes run before after a.end a.text)
 run_answers run before after t (Err e) comes end text = tt
 run_answers run before after t (Ok a) comes end text =

@@ -20,8 +20,8 @@ abbrev pub kept_end : Cause → RunRecord → End
 kept_end cause left = record { cause = cause; kept = Some left; trails = None }
 
 -- and of one whose run on threads left this, and its harts' trails, if it started
-abbrev pub told_end : Cause → RunRecord → Option KeeperView → End
-told_end cause left trails = record { cause = cause; kept = Some left; trails = trails }
+abbrev pub end_with_trails : Cause → RunRecord → Option KeeperView → End
+end_with_trails cause left trails = record { cause = cause; kept = Some left; trails = trails }
 
 -- the events that are kept
 abbrev pub events_kept : End → List Event

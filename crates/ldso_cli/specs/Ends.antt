@@ -28,7 +28,7 @@ abbrev pub Handing : Type 1
 Handing = List ℕ → Result (Unit {0}) WriteError → Type 0
 
 -- all of the text was written, and the end is the command's own
-pub record IsWhole (handed : Handing) (own : End) (text : List ℕ) (old new : SinkAt) (end : End) : Type 0 where
+pub record IsAllWritten (handed : Handing) (own : End) (text : List ℕ) (old new : SinkAt) (end : End) : Type 0 where
   pub end_is : end ≡ own
   pub written : handed text (Ok tt)
   pub taken : new.taken ≡ append_known old.taken text
@@ -48,7 +48,7 @@ pub record IsStopped (handed : Handing) (own : End) (text : List ℕ) (old new :
 
 -- how an answer was written, and the end that this makes
 abbrev pub Written : Handing → End → List ℕ → SinkAt → SinkAt → End → Type 0
-Written handed own text old new end = IsWhole handed own text old new end ⊎ IsCutShort handed own text old new end ⊎ IsStopped handed own text old new end
+Written handed own text old new end = IsAllWritten handed own text old new end ⊎ IsCutShort handed own text old new end ⊎ IsStopped handed own text old new end
 
 -- the command's own end, the text that it prints at it, and how that was written
 pub record IsAnswered (handed : Handing) (command : Option Command) (before after : LibraryAt) (old new : SinkAt) (end : End) : Type 0 where
@@ -90,14 +90,14 @@ abbrev pub is_want_of_memory : Event → Bool
 is_want_of_memory e = elim e [ Ended hart reason ↦ is_memory reason | _ ↦ false ]
 
 -- it is written which turn comes when
-abbrev pub IsScheduledWhole : Command → Type 0
-IsScheduledWhole (commands.Run run) = ⊥
-IsScheduledWhole other = Unit {0}
+abbrev pub FollowsSchedule : Command → Type 0
+FollowsSchedule (commands.Run run) = ⊥
+FollowsSchedule other = Unit {0}
 
 -- a call with these words over these files, which the library tells (gen reads none of it), in which neither the library nor the sink fails,
 -- and memory suffices, for the harts of a run that it makes, too; and no harts run on threads
 pub record IsUndisturbed (handed : Handing) (words : List (List ℕ)) (files : List File) (run : RunAt) : Type 0 where
-  pub written : (command : Command) → Reads words command → IsScheduledWhole command
+  pub written : (command : Command) → Reads words command → FollowsSchedule command
   pub told : (command : Command) → Reads words command → AreTold command run.before files
   pub ends : OfAsked words (λ command. WordsEnd handed command run.before run.after run.old run.new run.end)
   pub reads_well : (command : Command) → Reads words command → ReadsWell command run.before run.after

@@ -48,13 +48,13 @@ pub record HasRun (setup : Setup) (items : List TurnItem) (files : Option (List 
 
 -- the program ran: a run on threads, each of whose harts has a trail, left this journal and these ends
 pub record HasRunOnThreads (setup : Setup) (files : Option (List File)) (left : RunRecord) (trails : Option KeeperView) : Type 0 where
-  pub told : KeeperView
-  pub trails_are : trails ≡ Some told
+  pub view : KeeperView
+  pub trails_are : trails ≡ Some view
   -- the journal is a whole legal history, which came round after round; each hart follows from its start to its end, by the table of turns; none of its
   -- events is left out; and its trail says what the journal says
-  pub is : IsThreaded (run_of setup files) setup left told
+  pub is : IsThreaded (run_of setup files) setup left view
   -- each exchange of a slot of an object that is mapped at the end put there or found its one value, or no grant of it was made
-  pub slots : SlotsEnd left.journal.events told.joined
+  pub slots : SlotsEnd left.journal.events view.joined
   -- behind each of its events the choices, the blocks of thread-local storage and the closings are what they should be
   pub moments : (k : ℕ) → JournalIsTrue (run_of setup files) (take k left.journal.events)
 
@@ -88,7 +88,7 @@ pub record IsHistoryOfSet (number : ℕ) (left : RunRecord) : Type 0 where
 -- what is kept of run: a history of a run on threads, with its harts' trails if it started
 pub record IsHistoryOfThreads (setup : Setup) (before after : LibraryAt) (left : RunRecord) (trails : Option KeeperView) : Type 0 where
   pub is : IsHistoryOf (HasRunOnThreads setup before.files left trails) setup before after left
-  pub untold : left.ends ≡ [] → trails ≡ None
+  pub no_trails : left.ends ≡ [] → trails ≡ None
 
 -- a record is kept by a command that runs a program alone, and trails by a run on threads alone
 abbrev pub IsKept : Command → LibraryAt → LibraryAt → RunRecord → Option KeeperView → Type 0

@@ -15,7 +15,7 @@ use Rattle.trace_text.specs.declared.run_texts.run_end.RunEnd.{RunEnd}
 use Rattle.word_rule.specs.declared.view.KeeperView.{KeeperView}
 use Rattle.world_threads.specs.Threaded.{IsThreaded}
 use Rattle.world_threads.specs.declared.run.Ran.{Ran}
-use Rattle.ldso_cli.specs.End.{told_end}
+use Rattle.ldso_cli.specs.End.{end_with_trails}
 use Rattle.ldso_cli.specs.Outside.{LibraryAt}
 use Rattle.ldso_cli.specs.Played.{ComesToEnd, LeavesRefusal, last_line, run_cause}
 use Rattle.ldso_cli.specs.declared.outcome.End.{End}
@@ -23,9 +23,9 @@ use Rattle.ldso_cli.specs.declared.outcome.End.{End}
 -- a run on threads, over the files as the library tells them, left this record and these trails, and its harts' ends say how it ended
 pub record RunsOnThreads (setup : Setup) (files : Option (List File)) (ended : Result RunEnd DlFault) (left : RunRecord) (trails : Option KeeperView)
     : Type 0 where
-  pub told : KeeperView
-  pub trails_are : trails ≡ Some told
-  pub is : IsThreaded (run_of setup files) setup left told
+  pub view : KeeperView
+  pub trails_are : trails ≡ Some view
+  pub is : IsThreaded (run_of setup files) setup left view
   pub run_end : RunEnd
   pub ended_is : ended ≡ Ok run_end
   pub decides : IsRunEnd left.ends run_end
@@ -38,7 +38,7 @@ printed_of trace journal = if trace then journal_lines journal else guest_output
 pub record ComesOnThreads (setup : Setup) (before after : LibraryAt) (ended : Result RunEnd DlFault) (left : RunRecord) (trails : Option KeeperView)
     : Type 0 where
   pub comes : ComesToEnd (RunsOnThreads setup before.files ended left trails) setup before after ended left
-  pub untold : left.ends ≡ [] → trails ≡ None
+  pub no_trails : left.ends ≡ [] → trails ≡ None
 
 -- how run comes to its end and its text: what the run left is kept, with its harts' trails if it started
 pub record RunComes (command : Run) (before after : LibraryAt) (end : End) (text : List ℕ) : Type 0 where
@@ -46,7 +46,7 @@ pub record RunComes (command : Run) (before after : LibraryAt) (end : End) (text
   pub left : RunRecord
   pub trails : Option KeeperView
   pub run : ComesOnThreads command.setup before after ended left trails
-  pub end_is : end ≡ told_end (run_cause ended) left trails
+  pub end_is : end ≡ end_with_trails (run_cause ended) left trails
   pub text_is : text ≡ printed_of command.trace left.journal.events ++ last_line ended
 
 -- ---- for the code of this crate alone
@@ -60,13 +60,13 @@ pub record EndsOnThreads (ran : Ran) (ended : Result RunEnd DlFault) (left : Run
   pub decides : IsRunEnd left.ends run_end
 
 -- or of one that doesn't start
-pub record IsUntold (fault : DlFault) (journal : List Event) (ended : Result RunEnd DlFault) (left : RunRecord) (trails : Option KeeperView) : Type 0 where
+pub record RefusesStart (fault : DlFault) (journal : List Event) (ended : Result RunEnd DlFault) (left : RunRecord) (trails : Option KeeperView) : Type 0 where
   pub leaves : LeavesRefusal fault journal ended left
   pub none : trails ≡ None
 
 abbrev pub RunLeaves : Result Ran StartFault → Result RunEnd DlFault → RunRecord → Option KeeperView → Type 0
 RunLeaves (Ok ran) ended left trails = EndsOnThreads ran ended left trails
-RunLeaves (Err (starts.Refused fault journal)) ended left trails = IsUntold fault journal.events ended left trails
+RunLeaves (Err (starts.Refused fault journal)) ended left trails = RefusesStart fault journal.events ended left trails
 RunLeaves (Err starts.Memory) ended left trails = ⊥
 
 -- each hart of a run has an end, and they are few

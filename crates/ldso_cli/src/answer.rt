@@ -4,7 +4,7 @@ ghost use Rattle.std.specs.Prelude.{◌≡◌, IfOk};
 ghost use Rattle.std.specs.String.{string_bytes};
 ghost use Rattle.ldso_cli.specs.Command.{IsUsage};
 ghost use Rattle.ldso_cli.specs.End.{bare};
-ghost use Rattle.ldso_cli.specs.Status.{asm_refused_text, asm_word, refused_text, status_of_fault};
+ghost use Rattle.ldso_cli.specs.Status.{asm_refused_text, asm_word, refused_text};
 ghost use Rattle.ldso_cli.specs.declared.outcome.Cause.TheVariants.{AsmRefused, Done, Refused};
 
 use crate::outcome::{Cause, End, refused_line};

@@ -1,7 +1,6 @@
 //! `check`: whether a trace is legal.
 
 ghost use Rattle.std.specs.Prelude.{◌≡◌, ◌≤◌, IfOk, None, Some};
-ghost use Rattle.std.specs.String.{string_bytes};
 ghost use Rattle.ldso_cli.specs.Check.{TraceComes};
 ghost use Rattle.ldso_cli.specs.Checking.{IsJudgement};
 ghost use Rattle.ldso_cli.specs.Command.{EndsBare, WordsAnswer};

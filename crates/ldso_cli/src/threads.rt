@@ -2,7 +2,7 @@
 
 ghost use Rattle.std.specs.Prelude.{◌≡◌, ◌≤◌, ◌^◌, ◌++◌, All, IfOk};
 ghost use Rattle.history_calls.specs.Startup.{harts_of};
-ghost use Rattle.ldso_cli.specs.End.{told_end};
+ghost use Rattle.ldso_cli.specs.End.{end_with_trails};
 ghost use Rattle.ldso_cli.specs.Outside.{library_at};
 ghost use Rattle.ldso_cli.specs.Played.{last_line, run_cause};
 ghost use Rattle.ldso_cli.specs.Threads.{ComesOnThreads, EndsOnThreads, HasEnds, RunComes, RunLeaves, printed_of};
@@ -89,7 +89,7 @@ fn run_text(
 /// The answer of a run that is over.
 fn told(alloc: Global, trace: bool, threaded: Threaded) -> Result<Answer, AllocError>
     requires { All IsSayable threaded.played.left.journal.events }
-    ensures end { IfOk result (λ answer. answer.end ≡ told_end (run_cause threaded.played.ended) threaded.played.left threaded.trails) }
+    ensures end { IfOk result (λ answer. answer.end ≡ end_with_trails (run_cause threaded.played.ended) threaded.played.left threaded.trails) }
     ensures text { IfOk result (λ answer. answer.text ≡ printed_of trace threaded.played.left.journal.events ++ last_line threaded.played.ended) }
 {
     let Threaded { played, trails } = threaded;
