@@ -14,7 +14,7 @@ use std::alloc::Global;
 use std::io::Read;
 use std::process::ExitCode;
 use std::{env, fs, io};
-use stop::{Stop, usage_stop};
+use stop::{Stop, usage_stop, words_stop};
 use trace_view::{Journal, Members, members_of, read_journal, view};
 use words::{Asked, command};
 
@@ -49,7 +49,9 @@ fn show(rt: &HostRuntime, words: &[String]) -> Result<(), Stop> {
     let matches = match command(alloc)?.try_get_matches_from(words) {
         Ok(matches) => matches,
         Err(error) => {
-            error.print(rt)?;
+            if error.print(rt).is_err() {
+                return Err(Stop::WriteFault);
+            }
             return Err(usage_stop(error.kind()));
         }
     };
@@ -73,12 +75,26 @@ fn tell(rt: &HostRuntime, stop: Stop) -> io::Result<()> {
     }
 }
 
+/// The program's words.
+fn words_of(rt: &HostRuntime) -> Result<Vec<String>, Stop> {
+    match env::args(rt) {
+        Ok(words) => Ok(words.collect(rt.alloc())?),
+        Err(error) => Err(words_stop(&error)),
+    }
+}
+
+/// Does what the words ask for.
+fn run(rt: &HostRuntime) -> Result<(), Stop> {
+    let words = words_of(rt)?;
+    show(rt, words.as_slice())
+}
+
 fn main(rt: HostRuntime) -> io::Result<ExitCode> {
-    let words: Vec<String> = env::args(&rt)?.collect(rt.alloc())?;
-    match show(&rt, words.as_slice()) {
+    match run(&rt) {
         Ok(()) => Ok(ExitCode::SUCCESS),
         Err(stop) => {
-            tell(&rt, stop)?;
+            // The status says it, too.
+            let _ = tell(&rt, stop);
             Ok(ExitCode::from(stop.status()))
         }
     }

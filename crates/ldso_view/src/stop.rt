@@ -25,7 +25,7 @@ impl Stop {
     pub fn status(self) -> u8 {
         match self {
             Stop::Help => 0,
-            Stop::NoEvent(_) => 119,
+            Stop::NoEvent(_) => 117,
             Stop::Usage => 120,
             Stop::ReadFault => 121,
             Stop::WriteFault => 122,
@@ -64,6 +64,14 @@ impl From<ViewFault> for Stop {
             ViewFault::NoEvent(line) => Stop::NoEvent(line),
             ViewFault::Memory => Stop::Memory,
         }
+    }
+}
+
+/// Why the program has no words of its own: they aren't text, or there is no memory for them.
+pub fn words_stop(error: &io::Error) -> Stop {
+    match error.kind() {
+        io::ErrorKind::OutOfMemory => Stop::Memory,
+        _ => Stop::Usage,
     }
 }
 
