@@ -11,8 +11,6 @@ use Rattle.trace_read.specs.Fits.{IsWritable}
 use Rattle.trace_read.specs.Lines.{HasLine, line_of}
 use Rattle.trace_view.specs.declared.journal.Made.{Made}
 use Rattle.trace_view.specs.declared.journal.Step.{Step}
-use Rattle.trace_view.specs.declared.fault.ViewFault.{ViewFault}
-use Rattle.trace_view.specs.declared.fault.ViewFault.TheVariants as faults
 use Rattle.trace_view.specs.Journal.{AreRows, IsMadeIn, SettledIn, Settles, events_of, grant_of, lines_of, made_by, noted, settled_by, step_at}
 
 pub record IsReadSo (bytes : List ℕ) (rest : List ℕ) (steps : List Step) (grants : List Made) : Type 0 where

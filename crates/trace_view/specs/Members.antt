@@ -1,5 +1,5 @@
 -- The objects of a run, and what their files name.
-use Rattle.std.specs.Prelude.{◌≡◌, ℕ, ◌==◌, List, [], ◌∷◌, flat_map, map, Option, Some, None, option_map}
+use Rattle.std.specs.Prelude.{ℕ, ◌==◌, List, [], flat_map, map, Option, Some, None, option_map}
 use Rattle.std.specs.List.{find, slice_get}
 use Rattle.ld_base.specs.declared.object.Object.{Object}
 use Rattle.history_event.specs.declared.event_line.EventLine.{EventLine}

@@ -1,5 +1,5 @@
 -- A journal's text in one of its forms.
-use Rattle.std.specs.Prelude.{ℕ, List, [], codes, flat_map, Option, option_map, string_bytes}
+use Rattle.std.specs.Prelude.{ℕ, List, [], codes, flat_map, option_map, string_bytes}
 use Rattle.history_event.specs.declared.event_line.EventLine.{EventLine}
 use Rattle.history_event.specs.declared.event_line.EventLine.TheVariants as lines
 use Rattle.trace_view.specs.declared.journal.Journal.{Journal}

@@ -230,7 +230,7 @@ fn write_edge(
     ensures { OnOk result (string_bytes text.new ≡ string_bytes text.old ++ edge_text members.now step.now) }
 {
     match (&step.event, &step.grant) {
-        (EventLine::Bound { grant: _ }, Some(made)) => write_bound(text, alloc, members, made),
+        (EventLine::Bound { .. }, Some(made)) => write_bound(text, alloc, members, made),
         _ => Ok(()),
     }
 }

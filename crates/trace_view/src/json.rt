@@ -1,6 +1,6 @@
 //! A journal for other programs: JSON, a line an event.
 
-ghost use Rattle.std.specs.Prelude.{◌≡◌, false, [], ◌∷◌, ◌++◌, IfOk, OnOk, flat_map, option_map};
+ghost use Rattle.std.specs.Prelude.{◌≡◌, false, ◌++◌, IfOk, OnOk, flat_map, option_map};
 ghost use Rattle.std.specs.String.{string_bytes};
 ghost use Rattle.serde_json.specs.Data.{put as with_member, string};
 ghost use Rattle.serde_json.specs.View.{members_view, view};
@@ -25,48 +25,20 @@ fn kind_of(event: &EventLine) -> &'static str
     ensures { result.now ≡ kind_of event.now }
 {
     match event {
-        EventLine::Open {
-            hart: _,
-            ask: _,
-            answer: _,
-        } => "open",
-        EventLine::Close {
-            hart: _,
-            handle: _,
-            answer: _,
-        } => "close",
-        EventLine::Unmapped { hart: _, set: _ } => "unmapped",
-        EventLine::Grant {
-            grant: _,
-            hart: _,
-            owner: _,
-            slot: _,
-            choice: _,
-            value: _,
-        } => "grant",
-        EventLine::Bound { grant: _ } => "bound",
-        EventLine::Lost { grant: _, saw: _ } => "lost",
-        EventLine::Unresolved {
-            hart: _,
-            owner: _,
-            slot: _,
-            choice: _,
-        } => "unresolved",
-        EventLine::Sym {
-            hart: _,
-            ask: _,
-            answer: _,
-        } => "sym",
-        EventLine::Tls {
-            hart: _,
-            owner: _,
-            address: _,
-        } => "tls",
-        EventLine::Init { hart: _, object: _ } => "init",
-        EventLine::Fini { hart: _, object: _ } => "fini",
-        EventLine::Wrote { hart: _, bytes: _ } => "wrote",
-        EventLine::Told { hart: _, fault: _ } => "told",
-        EventLine::Ended { hart: _, end: _ } => "ended",
+        EventLine::Open { .. } => "open",
+        EventLine::Close { .. } => "close",
+        EventLine::Unmapped { .. } => "unmapped",
+        EventLine::Grant { .. } => "grant",
+        EventLine::Bound { .. } => "bound",
+        EventLine::Lost { .. } => "lost",
+        EventLine::Unresolved { .. } => "unresolved",
+        EventLine::Sym { .. } => "sym",
+        EventLine::Tls { .. } => "tls",
+        EventLine::Init { .. } => "init",
+        EventLine::Fini { .. } => "fini",
+        EventLine::Wrote { .. } => "wrote",
+        EventLine::Told { .. } => "told",
+        EventLine::Ended { .. } => "ended",
     }
 }
 
@@ -76,41 +48,19 @@ fn object_of(step: &Step) -> Option<Serial>
     ensures { result ≡ object_of step.now }
 {
     match &step.event {
-        EventLine::Grant {
-            grant: _,
-            hart: _,
-            owner,
-            slot: _,
-            choice: _,
-            value: _,
-        } => Some(*owner),
-        EventLine::Unresolved {
-            hart: _,
-            owner,
-            slot: _,
-            choice: _,
-        } => Some(*owner),
-        EventLine::Tls {
-            hart: _,
-            owner,
-            address: _,
-        } => Some(*owner),
-        EventLine::Init { hart: _, object } | EventLine::Fini { hart: _, object } => Some(*object),
+        EventLine::Grant { owner, .. } => Some(*owner),
+        EventLine::Unresolved { owner, .. } => Some(*owner),
+        EventLine::Tls { owner, .. } => Some(*owner),
+        EventLine::Init { object, .. } | EventLine::Fini { object, .. } => Some(*object),
         EventLine::Open {
-            hart: _,
-            ask: _,
-            answer: OpenLine::Done {
-                ns: _,
-                root,
-                added: _,
-            },
+            answer: OpenLine::Done { root, .. },
+            ..
         } => Some(*root),
         EventLine::Sym {
-            hart: _,
-            ask: _,
             answer: SymAnswer::Found(object, _, _),
+            ..
         } => Some(*object),
-        EventLine::Bound { grant: _ } | EventLine::Lost { grant: _, saw: _ } => {
+        EventLine::Bound { .. } | EventLine::Lost { .. } => {
             match &step.grant {
                 Some(made) => Some(made.owner),
                 None => None,
@@ -125,15 +75,8 @@ fn grant_of(event: &EventLine) -> Option<GrantNo>
     ensures { result ≡ grant_of event.now }
 {
     match event {
-        EventLine::Grant {
-            grant,
-            hart: _,
-            owner: _,
-            slot: _,
-            choice: _,
-            value: _,
-        } => Some(*grant),
-        EventLine::Bound { grant } | EventLine::Lost { grant, saw: _ } => Some(*grant),
+        EventLine::Grant { grant, .. } => Some(*grant),
+        EventLine::Bound { grant } | EventLine::Lost { grant, .. } => Some(*grant),
         _ => None,
     }
 }
@@ -143,24 +86,12 @@ fn address_of(event: &EventLine) -> Option<u64>
     ensures { result ≡ address_of event.now }
 {
     match event {
-        EventLine::Grant {
-            grant: _,
-            hart: _,
-            owner: _,
-            slot: _,
-            choice: _,
-            value,
-        } => Some(*value),
-        EventLine::Lost { grant: _, saw } => Some(*saw),
-        EventLine::Tls {
-            hart: _,
-            owner: _,
-            address,
-        } => Some(*address),
+        EventLine::Grant { value, .. } => Some(*value),
+        EventLine::Lost { saw, .. } => Some(*saw),
+        EventLine::Tls { address, .. } => Some(*address),
         EventLine::Sym {
-            hart: _,
-            ask: _,
             answer: SymAnswer::Found(_, _, address),
+            ..
         } => Some(*address),
         _ => None,
     }

@@ -88,7 +88,7 @@ fn push_loaded(alloc: Global, members: &mut Members, event: &EventLine) -> Resul
         EventLine::Open {
             hart: _,
             ask: _,
-            answer: OpenLine::Done { ns, root: _, added },
+            answer: OpenLine::Done { ns, added, .. },
         } => push_news(alloc, members, *ns, added.as_slice()),
         _ => Ok(()),
     }

@@ -63,47 +63,19 @@ pub(crate) fn hart_of(step: &Step) -> Option<HartId>
     ensures { result ≡ hart_of step.now }
 {
     match &step.event {
-        EventLine::Open {
-            hart,
-            ask: _,
-            answer: _,
-        }
-        | EventLine::Close {
-            hart,
-            handle: _,
-            answer: _,
-        }
-        | EventLine::Unmapped { hart, set: _ }
-        | EventLine::Sym {
-            hart,
-            ask: _,
-            answer: _,
-        }
-        | EventLine::Init { hart, object: _ }
-        | EventLine::Fini { hart, object: _ }
-        | EventLine::Wrote { hart, bytes: _ }
-        | EventLine::Told { hart, fault: _ }
-        | EventLine::Ended { hart, end: _ } => Some(*hart),
-        EventLine::Grant {
-            grant: _,
-            hart,
-            owner: _,
-            slot: _,
-            choice: _,
-            value: _,
-        } => Some(*hart),
-        EventLine::Unresolved {
-            hart,
-            owner: _,
-            slot: _,
-            choice: _,
-        } => Some(*hart),
-        EventLine::Tls {
-            hart,
-            owner: _,
-            address: _,
-        } => Some(*hart),
-        EventLine::Bound { grant: _ } | EventLine::Lost { grant: _, saw: _ } => {
+        EventLine::Open { hart, .. }
+        | EventLine::Close { hart, .. }
+        | EventLine::Unmapped { hart, .. }
+        | EventLine::Sym { hart, .. }
+        | EventLine::Init { hart, .. }
+        | EventLine::Fini { hart, .. }
+        | EventLine::Wrote { hart, .. }
+        | EventLine::Told { hart, .. }
+        | EventLine::Ended { hart, .. } => Some(*hart),
+        EventLine::Grant { hart, .. } => Some(*hart),
+        EventLine::Unresolved { hart, .. } => Some(*hart),
+        EventLine::Tls { hart, .. } => Some(*hart),
+        EventLine::Bound { .. } | EventLine::Lost { .. } => {
             match &step.grant {
                 Some(made) => Some(made.hart),
                 None => None,
@@ -117,35 +89,11 @@ fn colour_of(event: &EventLine) -> &'static str
     ensures { result.now ≡ colour_of event.now }
 {
     match event {
-        EventLine::Open {
-            hart: _,
-            ask: _,
-            answer: _,
-        }
-        | EventLine::Close {
-            hart: _,
-            handle: _,
-            answer: _,
-        }
-        | EventLine::Unmapped { hart: _, set: _ } => "#0550ae",
-        EventLine::Grant {
-            grant: _,
-            hart: _,
-            owner: _,
-            slot: _,
-            choice: _,
-            value: _,
-        } => "#bc4c00",
-        EventLine::Bound { grant: _ } => "#1a7f37",
-        EventLine::Lost { grant: _, saw: _ }
-        | EventLine::Unresolved {
-            hart: _,
-            owner: _,
-            slot: _,
-            choice: _,
-        } => "#cf222e",
-        EventLine::Init { hart: _, object: _ } | EventLine::Fini { hart: _, object: _ } =>
-            "#8250df",
+        EventLine::Open { .. } | EventLine::Close { .. } | EventLine::Unmapped { .. } => "#0550ae",
+        EventLine::Grant { .. } => "#bc4c00",
+        EventLine::Bound { .. } => "#1a7f37",
+        EventLine::Lost { .. } | EventLine::Unresolved { .. } => "#cf222e",
+        EventLine::Init { .. } | EventLine::Fini { .. } => "#8250df",
         _ => "#57606a",
     }
 }

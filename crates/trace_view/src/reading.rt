@@ -65,7 +65,7 @@ fn note(grants: &mut Sequence<Made>, event: &EventLine, row: usize) -> Result<()
             owner,
             slot,
             choice,
-            value: _,
+            ..
         } => grants.push(Made {
             row,
             grant: *grant,
@@ -90,7 +90,7 @@ fn settled_by(grants: &[Made], event: &EventLine) -> Option<Made>
     ensures { result ≡ settled_by grants.now event.now }
 {
     match event {
-        EventLine::Bound { grant } | EventLine::Lost { grant, saw: _ } => {
+        EventLine::Bound { grant } | EventLine::Lost { grant, .. } => {
             grant_of(grants, *grant).copied()
         }
         _ => None,

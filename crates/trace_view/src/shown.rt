@@ -52,7 +52,7 @@ fn said_text(alloc: Global, steps: &[Step]) -> Result<Vec<u8>, AllocError>
 {
     let mut said = Vec::new(alloc);
     for step in steps {
-        if let EventLine::Wrote { hart: _, bytes } = &step.event {
+        if let EventLine::Wrote { bytes, .. } = &step.event {
             said.extend_from_slice(bytes.as_slice())?;
         }
     }

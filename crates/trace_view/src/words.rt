@@ -84,12 +84,12 @@ fn write_event(text: &mut String, members: &[Member], event: &EventLine) -> Resu
             write!(text, "hart {hart} unmapped {set}")
         }
         EventLine::Grant {
-            grant: _,
             hart,
             owner,
             slot,
             choice,
             value,
+            ..
         } => {
             write_hart(text, *hart)?;
             write_call(text, members, *owner, *slot, *choice, *value)
@@ -269,7 +269,7 @@ fn write_open_answer(
     ensures { OnOk result (string_bytes text.new ≡ string_bytes text.old ++ open_answer_words members.now answer.now) }
 {
     match answer {
-        OpenLine::Done { ns: _, root, added } => {
+        OpenLine::Done { root, added, .. } => {
             if added.is_empty() {
                 let root = ObjectName {
                     members,
@@ -498,8 +498,8 @@ pub(crate) fn write_words(
     ensures { OnOk result (string_bytes text.new ≡ string_bytes text.old ++ step_words members.now step.now) }
 {
     match (&step.event, step.grant) {
-        (EventLine::Bound { grant: _ }, Some(made)) => write_bound(text, members, made),
-        (EventLine::Lost { grant: _, saw }, Some(made)) => write_lost(text, members, made, *saw),
+        (EventLine::Bound { .. }, Some(made)) => write_bound(text, members, made),
+        (EventLine::Lost { saw, .. }, Some(made)) => write_lost(text, members, made, *saw),
         (event, _) => write_event(text, members, event),
     }
 }

@@ -1,4 +1,4 @@
-use Rattle.std.proofs.Common.{◌∙◌, rules}
+use Rattle.std.proofs.Common.{rules}
 use Rattle.trace_view.proofs.Ended.{is_last}
 use Rattle.trace_view.proofs.reading.last_of.Goals as goal
 
