@@ -8,7 +8,7 @@ use Rattle.std.proofs.lemmas.List.Folds.{list_any_at}
 use Rattle.std.proofs.lemmas.Bool.{cases_lt, eqb-true, eq-eqb, lt-ltb, le-ltb, le-leb, lt-leb, and_left, and_right, and_from, or_right, both_ways}
 use Rattle.std.proofs.Math.Bool.{and-true, or-false}
 use Rattle.std.proofs.lemmas.Map.Views.{any-filter_same}
-use Rattle.address_space.specs.Pages.{AllFree, AllInUse, Fits, IsFirstFit, IsGuestRange, guest_pages, is_within, page_at, page_size, together_with, without}
+use Rattle.address_space.specs.Pages.{AllFree, AllInUse, Fits, IsFirstFit, guest_pages, is_within, page_at, page_size, together_with, without}
 use Rattle.address_space.specs.Marks.{AllMarked, FitsAt, MarksAs, is_marked, marked_pages}
 use Rattle.address_space.proofs.Scan.{marked_within}
 
@@ -166,13 +166,6 @@ range_numbers address pages some all =
     let there = last.2 in
     let small = last.1 in
     (first.0, omega arith, omega arith)
-
-pub IsGuestRange-all : (address pages : ℕ) → 0 < pages → AllFree guest_pages address pages → IsGuestRange address pages
-IsGuestRange-all address pages some all =
-    let range = range_numbers address pages some all in
-    let here = range.1 in
-    let short = range.2 in
-    record { aligned = omega arith; low = omega arith; high = omega arith }
 
 -- pages that may be given away are in use once they are taken from the free ones
 pub AllInUse-without : (free : List ℕ) (address pages : ℕ) → AllFree guest_pages address pages → AllInUse (without free address pages) address pages

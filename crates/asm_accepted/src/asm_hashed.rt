@@ -1,4 +1,4 @@
-//! The hash tables and symbols of a source's object: laws; a crate without code.
+//! The hash tables and symbols of a source's object: laws.
 //!
 //! - [`hash_tables_fit`]: the numbers of the hash tables fit their words, and nothing but the chain of its greatest
 //!   bucket has to tell where the GNU table ends.

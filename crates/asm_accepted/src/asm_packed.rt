@@ -1,4 +1,4 @@
-//! The packed places of a source's object: laws; a crate without code.
+//! The packed places of a source's object: laws.
 //!
 //! - [`packed_places_ascend`]: they are even and ascend.
 mod law;

@@ -1,4 +1,4 @@
-//! The record that the statements of a source say: definitions and laws; a crate without code.
+//! The record that the statements of a source say: definitions and laws.
 //!
 //! - `specs/Record`: what a reader is to find in the object that the source denotes, field by field.
 //! - [`the_head_is_said`]: the kind, the entry and the program headers are those.

@@ -1,4 +1,4 @@
-//! The versions of a source's object: laws; a crate without code.
+//! The versions of a source's object: laws.
 //!
 //! - [`versions_lead_on`]: each record of them leads to the next one.
 mod law;

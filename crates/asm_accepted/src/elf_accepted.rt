@@ -1,4 +1,4 @@
-//! Which object a file is that `asm_write` makes, if it is accepted: a crate without code.
+//! Which object a file is that `asm_write` makes, if it is accepted.
 //!
 //! - [`the_object_is_spelled`]: each field is the one that the object's contents say, and its hash tables are those
 //!   of the contents.

@@ -1,4 +1,4 @@
-//! What a reader finds of the symbols and hash tables of an object that `asm_write` makes: a crate without code.
+//! What a reader finds of the symbols and hash tables of an object that `asm_write` makes.
 //!
 //! - [`the_hash_tables_are_spelled`]: the words of its hash tables.
 //! - [`the_symbols_are_counted`]: how many symbols it says that it has.

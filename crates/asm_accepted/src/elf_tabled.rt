@@ -1,4 +1,4 @@
-//! What a reader finds in the tables of an object that `asm_write` makes: a crate without code.
+//! What a reader finds in the tables of an object that `asm_write` makes.
 //!
 //! - [`the_relocations_are_spelled`]: the relocations of an accepted object are those of the places that the
 //!   linker is told of; [`the_table_of_relocations`] says it of the table's bytes alone.

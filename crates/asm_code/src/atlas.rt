@@ -1,12 +1,12 @@
 //! Where names are.
 
-ghost use Rattle.std.specs.Prelude.{◌≡◌, ◌+◌, ◌*◌, ◌^◌, ◌<◌, List, length, IfSome, Some, ℕ, ℤ, true};
+ghost use Rattle.std.specs.Prelude.{◌≡◌, ◌+◌, ◌*◌, ◌^◌, ◌<◌, List, length, IfSome, Some, ℤ, true};
 ghost use Rattle.asm_statement.specs.declared.line.Line.{Line};
 ghost use Rattle.asm_layout.specs.Places.{place_at};
 ghost use Rattle.asm_layout.specs.Words.{address, address_at, got_plt_address, label_address, slot_address, call_address, got_address, operand_value, distance};
 ghost use Rattle.asm_layout.specs.Faults.{number_fits};
 ghost use Rattle.asm_uses.specs.Operands.{operand_as};
-ghost use Rattle.asm_code.specs.Atlas.{section_base, IsAtlasOf};
+ghost use Rattle.asm_code.specs.Atlas.{IsAtlasOf};
 ghost use Rattle.asm_code.specs.Encoded.{IsModest, MayBe};
 
 use asm_layout::{GotKind, Place};

@@ -1,7 +1,7 @@
 //! Which instructions have a word.
 
 ghost use Rattle.std.specs.Prelude.{◌≡◌, ◌==◌, ◌&&◌, Some, None, [], ◌∷◌, if◌then◌else◌, option_map};
-ghost use Rattle.rv_isa.specs.Encoding.{word_of, HasForm};
+ghost use Rattle.rv_isa.specs.Encoding.{word_of};
 ghost use Rattle.rv_isa.specs.Opcodes.{imm_code};
 ghost use Rattle.rv_isa.specs.Word.{bits, part};
 ghost use Rattle.asm_layout.specs.Faults.{has_form, is_within, is_distance, is_upper, fits_field, is_atomic_size, is_fence};

@@ -5,7 +5,7 @@ ghost use Rattle.rv_isa.specs.declared.operation.LoadOp.TheVariants as loads;
 ghost use Rattle.rv_isa.specs.declared.operation.ImmOp.TheVariants as imms;
 ghost use Rattle.asm_layout.specs.Expansions.{upper, lower, wrapped, upper_instr, li_instrs, address_expansion, zero_branch, operand_of, expansion, Registers};
 ghost use Rattle.asm_layout.specs.Numbers.{fits_addi};
-ghost use Rattle.asm_layout.specs.Faults.{is_within, is_upper};
+ghost use Rattle.asm_layout.specs.Faults.{is_within};
 ghost use Rattle.asm_code.specs.Encoded.{encoded, word_list, IsModest, MayBe};
 
 use crate::encoding::LineWords;

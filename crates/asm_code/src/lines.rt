@@ -1,10 +1,9 @@
 //! The words of a line, or why it is refused.
 
-ghost use Rattle.std.specs.Prelude.{◌≡◌, ◌<◌, ◌≤◌, ◌^◌, ℕ, Bool, true, false, List, length, Some, None, MatchOption, MatchResult, slice_get};
+ghost use Rattle.std.specs.Prelude.{◌≡◌, ◌<◌, ◌≤◌, ◌^◌, ℕ, true, false, List, length, Some, None, MatchOption, MatchResult, slice_get};
 ghost use Rattle.asm_statement.specs.declared.line.Line.{Line};
-ghost use Rattle.asm_layout.specs.Expansions.{expansion};
 ghost use Rattle.asm_layout.specs.Places.{place_at};
-ghost use Rattle.asm_layout.specs.Words.{address_at, instrs_at, words_or_none, statement_words, words_at};
+ghost use Rattle.asm_layout.specs.Words.{address_at, words_or_none, statement_words, words_at};
 ghost use Rattle.asm_layout.specs.Faults.{fault_at, for_statement, statement_fits, statement_is_known, statement_may_stand, line_fault};
 ghost use Rattle.asm_uses.specs.Uses.{AreUsesOf};
 ghost use Rattle.asm_code.specs.Atlas.{IsAtlasOf};

@@ -8,7 +8,7 @@ use Rattle.std.proofs.lemmas.List.Sums.{sum_by-cons}
 use Rattle.asm_write.specs.declared.contents.VersionRecord.{VersionRecord}
 use Rattle.asm_statement.specs.declared.line.Line.{Line}
 use Rattle.asm_layout.specs.Contents.{string_bytes}
-use Rattle.asm_layout.specs.Versions.{base_record, file_versions, needed_files, records_for, strings_length, version_records, word}
+use Rattle.asm_layout.specs.Versions.{base_record, file_versions, needed_files, records_for, strings_length, word}
 use Rattle.asm_layout.proofs.Offsets.{cut_versions}
 use Rattle.asm_places.specs.declared.asm_needs.needed_file.NeededFile.{NeededFile}
 use Rattle.asm_places.specs.AsmNeeds.Files.{file_of}

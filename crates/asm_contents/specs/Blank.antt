@@ -1,5 +1,5 @@
 -- The contents as they are filled in.
-use Rattle.std.specs.Prelude.{◌≡◌, ℕ, false, if◌then◌else◌, List, [], map, Option, Some, None, unwrap_or}
+use Rattle.std.specs.Prelude.{ℕ, false, if◌then◌else◌, List, [], map, Option, Some, None, unwrap_or}
 use Rattle.ld_base.specs.declared.object.Kind.TheVariants.{Dyn}
 use Rattle.ld_base.specs.declared.parts.GnuPart.{GnuPart}
 use Rattle.ld_base.specs.declared.parts.SysvPart.{SysvPart}

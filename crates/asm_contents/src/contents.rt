@@ -2,7 +2,6 @@
 
 ghost use Rattle.std.specs.Prelude.{◌≡◌, ◌++◌, [], List, IfOk, OnOk, map};
 ghost use Rattle.asm_write.specs.HashBuild.Hashed.{gnu_of, sysv_of};
-ghost use Rattle.sym_hash.specs.Hash.{gnu_hash, sysv_hash};
 ghost use Rattle.asm_statement.specs.declared.line.Line.{Line};
 ghost use Rattle.asm_layout.specs.Contents.{contents_of, elf_kind, entry_name, soname_offset};
 ghost use Rattle.asm_layout.specs.Contents.{needed_at, offsets_from, strings_of, imports_at, exports_at, versions_at, files_at, needed_versions_at};
@@ -14,7 +13,7 @@ ghost use Rattle.asm_layout.specs.Uses.{imports, slots};
 ghost use Rattle.asm_layout.specs.Versions.{first_needed, has_versions, need_records, needed_files, needed_records, records_for, word};
 ghost use Rattle.asm_places.specs.AsmNeeds.Files.{AreFilesOf};
 ghost use Rattle.asm_places.specs.Counts.{ArePlacesOf};
-ghost use Rattle.asm_symbols.specs.Indexes.{AreIndexesOf, AreOwnNumbers};
+ghost use Rattle.asm_symbols.specs.Indexes.{AreIndexesOf};
 ghost use Rattle.asm_symbols.specs.AsmTables.Spots.{AreSpotsOf};
 ghost use Rattle.asm_uses.specs.Uses.{AreUsesOf};
 ghost use Rattle.asm_contents.specs.Marks.{AreMarksOf};

@@ -1,14 +1,11 @@
 //! The string table, and where names begin in it.
 
-ghost use Rattle.std.specs.Prelude.{◌≡◌, ◌++◌, ℕ, List, IfOk, OnOk, flat_map, length, map, option_map, option_to_list};
+ghost use Rattle.std.specs.Prelude.{◌≡◌, ◌++◌, ℕ, List, IfOk, OnOk, flat_map, length, option_map, option_to_list};
 ghost use Rattle.asm_statement.specs.declared.line.Line.{Line};
 ghost use Rattle.asm_layout.specs.Contents.{offsets_from, string_bytes};
-ghost use Rattle.asm_layout.specs.Symbols.{sorted_exports};
 ghost use Rattle.asm_layout.specs.Tables.{library_needed, needed as needed_of};
 ghost use Rattle.asm_layout.specs.Versions.{word};
 ghost use Rattle.std.specs.List.{cons_option};
-ghost use Rattle.asm_places.specs.AsmNeeds.Files.{AreFilesOf};
-ghost use Rattle.asm_uses.specs.Uses.{AreUsesOf};
 ghost use Rattle.asm_contents.specs.Marks.{AreMarksOf, AreStringsBehind};
 
 use crate::object_words::soname;

@@ -4,7 +4,7 @@ use Rattle.std.specs.List.{list_all}
 use Rattle.std.specs.Str.{byte}
 use Rattle.std.proofs.lemmas.Bool.{and_parts, or_cases, or_parts, or_left, or_right, cases_Bool, cases_eq, eqb-true, eq-eqb, ne_eqb, not-true, not-false}
 use Rattle.std.proofs.lemmas.Option.{same_Some}
-use Rattle.asm_statement.specs.AsmWords.Text.{is_blank, is_mark, after_blanks, trimmed, until, cut_at, parts_of}
+use Rattle.asm_statement.specs.AsmWords.Text.{is_mark, after_blanks, trimmed, until, cut_at, parts_of}
 use Rattle.asm_statement.specs.AsmWords.Names.{is_name, is_name_byte, may_begin}
 use Rattle.asm_grammar.specs.Lines.{is_printed, is_quoted_after}
 use Rattle.asm_grammar.specs.Texts.{ArePadded, AreParts}
@@ -107,17 +107,6 @@ no_colon c is =
     elim (cases_eq c (byte ":")) [
       | inl same ↦ absurd (let e : false ≡ true = rw same at is in cc)
       | inr other ↦ rw (ne_eqb c (byte ":") other) refl
-    ]
-
-no_blank : (c : ℕ) → is_name_byte c ≡ true → not (is_blank c) ≡ true
-unfolding is_name_byte is_blank
-no_blank c is =
-    elim (cases_eq c 32) [
-      | inl same ↦ absurd (let e : false ≡ true = rw same at is in cc)
-      | inr other ↦ elim (cases_eq c 9) [
-        | inl same ↦ absurd (let e : false ≡ true = rw same at is in cc)
-        | inr another ↦ rw (ne_eqb c 32 other, ne_eqb c 9 another) refl
-      ]
     ]
 
 name_bytes : (text : List ℕ) → is_name text ≡ true → list_all is_name_byte text ≡ true

@@ -1,10 +1,10 @@
 -- The names in the strings of an object are those that its lines say.
-use Rattle.std.proofs.Common.{ℕ, ◌%◌, ◌==◌, Bool, true, false, if◌then◌else◌, List, [], ◌∷◌, ◌++◌, map, filter, filter_map, flat_map, fold, length}
-use Rattle.std.specs.Prelude.{⊤, Option, Some, None, option_to_list}
-use Rattle.std.specs.List.{All, Contains, cons_option, list_any, range_with_len}
+use Rattle.std.proofs.Common.{ℕ, true, false, if◌then◌else◌, List, [], ◌∷◌, filter, flat_map, fold, length}
+use Rattle.std.specs.Prelude.{Option, Some, None, option_to_list}
+use Rattle.std.specs.List.{All, Contains}
 use Rattle.std.specs.Str.{bytes_eq}
 use Rattle.std.proofs.lemmas.List.Elements.{All-contains_itself}
-use Rattle.asm_write.specs.HashBuild.Hashed.{bucket_count, by_bucket}
+use Rattle.asm_write.specs.HashBuild.Hashed.{bucket_count}
 use Rattle.sym_hash.specs.Hash.{gnu_hash}
 use Rattle.asm_statement.specs.declared.directive.Directive.TheVariants as directives
 use Rattle.asm_statement.specs.declared.directive.Doubleword.TheVariants as doublewords
@@ -20,7 +20,7 @@ use Rattle.asm_layout.specs.Labels.{is_label}
 use Rattle.asm_layout.specs.Names.{is_foreign}
 use Rattle.asm_layout.specs.Symbols.{sorted_exports}
 use Rattle.asm_layout.specs.Tables.{library_needed, needed, soname, soname_given, version_defined, versions}
-use Rattle.asm_layout.specs.Uses.{distinct, distinct_after, exported_by, exports, foreign_name, if_foreign, if_labelled, imports, is_copy_label, label_symbol, mention, need_of, needs, own_symbol, same_export, with_need}
+use Rattle.asm_layout.specs.Uses.{exported_by, exports, foreign_name, if_foreign, if_labelled, imports, is_copy_label, label_symbol, mention, need_of, needs, own_symbol, same_export}
 use Rattle.asm_layout.specs.Versions.{file_versions, is_of_file, needed_files}
 use Rattle.asm_laws.specs.Said.{IsSaid, line_names, operand_names, said_names, statement_names}
 use Rattle.asm_laws.specs.Lemmas.Each.{Each, all, both, each}

@@ -1,4 +1,4 @@
-//! How large the object of a source is: laws; a crate without code.
+//! How large the object of a source is: laws.
 //!
 //! - [`parts_end_low`]: each part ends below 2^62.
 //! - [`packed_places_stand_behind`]: no place that is packed stands before the third segment.

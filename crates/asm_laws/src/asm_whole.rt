@@ -1,4 +1,4 @@
-//! What the laws of objects ask for is so of each source: a crate without code.
+//! What the laws of objects ask for is so of each source.
 //!
 //! - [`alignments_divide_pages`]: what a part is aligned to divides a page.
 //! - [`sources_are_short`]: a source has a million lines at most, with short texts, names of the grammar, and

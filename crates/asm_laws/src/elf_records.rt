@@ -1,5 +1,5 @@
 //! A record that `asm_write` makes reads back, wherever its bytes stand: the writer has lists of fields, the
-//! reader places, and these laws tie them. A crate without code.
+//! reader places, and these laws tie them.
 //!
 //! - [`fields_read_back`]: a field has its number as far behind the record's begin as the fields before it take.
 //! - [`heads_read_back`], [`headers_read_back`]: the ELF header and program headers.

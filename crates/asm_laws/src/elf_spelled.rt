@@ -1,4 +1,4 @@
-//! What a reader finds in an object that `asm_write` makes. A crate without code.
+//! What a reader finds in an object that `asm_write` makes.
 //!
 //! - [`parts_stand_at_their_starts`]: the bytes of each part stand where it starts.
 //! - [`the_head_is_spelled`]: the kind, the entry and the program headers.

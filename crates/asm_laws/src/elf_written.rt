@@ -1,4 +1,4 @@
-//! What the bytes that `asm_write` makes are: laws of its definitions; a crate without code.
+//! What the bytes that `asm_write` makes are: laws of its definitions.
 //!
 //! - [`parts_have_their_sizes`]: a part has as many bytes as its size says, but for the packed table, whose
 //!   words are counted before the third segment has its address.

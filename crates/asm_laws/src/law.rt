@@ -1,6 +1,6 @@
 //! The laws.
 
-ghost use Rattle.std.specs.Prelude.{◌≡◌, ◌<◌, ◌^◌, List, ℕ, length, take};
+ghost use Rattle.std.specs.Prelude.{◌<◌, ◌^◌, List, ℕ, length, take};
 ghost use Rattle.std.specs.List.{All};
 ghost use Rattle.asm_write.specs.declared.starts.Starts.{Starts};
 ghost use Rattle.asm_laws.specs.ElfWritten.Fitting.{FitsSections};

@@ -1,7 +1,6 @@
 -- What the contents of lines hold.
 use Rattle.std.proofs.Common.{◌≡◌, List, ap, ◌∙◌, refl}
 use Rattle.asm_write.specs.declared.contents.Contents.{Contents}
-use Rattle.asm_write.specs.declared.contents.Sections.{Sections}
 use Rattle.asm_statement.specs.declared.line.Line.{Line}
 use Rattle.asm_layout.specs.Contents.{contents_of}
 use Rattle.asm_layout.specs.Spots.{sections_of}

@@ -1,7 +1,6 @@
 //! The bytes of a source's object.
 
 ghost use Rattle.std.specs.Prelude.{◌≡◌, IfOk, IfErr};
-ghost use Rattle.asm_layout.specs.Faults.{HasNoFault};
 ghost use Rattle.asm_layout.specs.Object.{code_of, object_of};
 ghost use Rattle.asm_object.specs.Code.{IsCodeOf};
 ghost use Rattle.asm_layout.specs.AsmDenotes.Denotes.{AreObjectOf, Denotes, TellsOfLines, TellsOf};

@@ -1,7 +1,6 @@
 //! The sections as lines fill them.
 
-ghost use Rattle.std.specs.Prelude.{◌≡◌, ◌<◌, ℕ, [], IfSome, slice_index};
-ghost use Rattle.asm_statement.specs.declared.directive.Section.{Section as Sections};
+ghost use Rattle.std.specs.Prelude.{◌≡◌, ◌<◌, [], IfSome};
 ghost use Rattle.asm_layout.specs.Places.{section_number, next_section};
 ghost use Rattle.asm_places.specs.Counts.{Counts, Advances, filled_of};
 

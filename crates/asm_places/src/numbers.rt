@@ -1,6 +1,6 @@
 //! Which numbers fit where.
 
-ghost use Rattle.std.specs.Prelude.{◌≡◌, ◌<◌, ◌^◌, ℤ};
+ghost use Rattle.std.specs.Prelude.{◌≡◌, ◌<◌};
 ghost use Rattle.asm_layout.specs.Numbers.{value_of, fits, fits_data, fits_dword, fits_addend, fits_count, count_of};
 ghost use Rattle.asm_layout.specs.Numbers.{fits_li, fits_upper, fits_addi};
 

@@ -1,12 +1,12 @@
 -- How far lines reach, one line more before the others.
-use Rattle.std.proofs.Common.{◌≡◌, ℕ, suc, ◌+◌, ◌-◌, ◌<◌, ◌≤◌, ◌&&◌, ◌==◌, nat_lt, Bool, true, false, List, [], ◌∷◌, length, get_or, set, drop, refl, sym, ap, ◌∙◌, add-one, arith}
+use Rattle.std.proofs.Common.{◌≡◌, ℕ, suc, ◌+◌, ◌-◌, ◌<◌, ◌≤◌, ◌&&◌, nat_lt, Bool, true, false, List, ◌∷◌, length, get_or, set, drop, refl, sym, ap, ◌∙◌, add-one, arith}
 use Rattle.std.specs.Prelude.{if◌then◌else◌}
-use Rattle.std.proofs.Math.Seq.{drop-cons, drop-length}
+use Rattle.std.proofs.Math.Seq.{drop-cons}
 use Rattle.std.proofs.lemmas.Bool.Decides.{nat_tests}
 use Rattle.std.proofs.lemmas.List.{get_or-set_same, get_or-set_other, length-set}
 use Rattle.asm_statement.specs.declared.directive.Section.{Section}
 use Rattle.asm_statement.specs.declared.line.Line.{Line}
-use Rattle.asm_layout.specs.Places.{is_section, place_at, filled}
+use Rattle.asm_layout.specs.Places.{is_section, place_at}
 use Rattle.asm_layout.specs.Symbols.{next_offset, size_behind}
 use Rattle.asm_symbols.specs.declared.label_sizes.Ends.{Ends}
 use Rattle.asm_symbols.specs.Reaches.{defines_some, end_of, AreEndsFrom, AreSizesFrom}
@@ -14,9 +14,6 @@ use Rattle.asm_symbols.specs.Reaches.{defines_some, end_of, AreEndsFrom, AreSize
 from_line : (lines : List Line) (k : ℕ) (line : Line) → k < length lines → line ≡ get_or lines k line → drop k lines ≡ line ∷ drop (k + 1) lines
 from_line lines k line below is =
     drop-cons lines k line below ∙ ap (λ (x : Line). x ∷ drop (suc k) lines) (sym is) ∙ ap (λ (n : ℕ). line ∷ drop n lines) (sym (add-one k))
-
-pub ends_at_end : (lines : List Line) (ends : Ends) → ((section : Section) → end_of ends section ≡ filled section lines) → AreEndsFrom lines (length lines) ends
-ends_at_end lines ends are section = are section ∙ ap (next_offset lines section (length lines)) (sym (drop-length lines))
 
 pub ends_before : (lines : List Line) (k : ℕ) (line : Line) (old new : Ends) → k < length lines → line ≡ get_or lines k line → AreEndsFrom lines (k + 1) old
     → ((section : Section) → end_of new section

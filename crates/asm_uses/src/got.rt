@@ -1,6 +1,6 @@
 //! The global offset table.
 
-ghost use Rattle.std.specs.Prelude.{◌≡◌, [], List, OnOk, option_map, if◌then◌else◌};
+ghost use Rattle.std.specs.Prelude.{◌≡◌, [], List, OnOk, option_map};
 ghost use Rattle.asm_statement.specs.declared.line.Line.{Line};
 ghost use Rattle.asm_layout.specs.declared.uses.GotUse.{GotUse as Use};
 ghost use Rattle.asm_layout.specs.Uses.{got_use, got_uses, same_use};

@@ -1,8 +1,8 @@
 //! What references need of versions.
 
-ghost use Rattle.std.specs.Prelude.{◌≡◌, [], find, fold, filter_map, IfOk, OnOk, option_map};
+ghost use Rattle.std.specs.Prelude.{◌≡◌, [], find, IfOk, OnOk, option_map};
 ghost use Rattle.std.specs.Str.{bytes_eq};
-ghost use Rattle.asm_layout.specs.Uses.{directive_need, need_of, needs, with_need};
+ghost use Rattle.asm_layout.specs.Uses.{need_of, needs, with_need};
 ghost use Rattle.asm_uses.specs.Needs.{with_found};
 
 use asm_statement::{Directive, Line, Need, Statement, Statements};

@@ -1,7 +1,6 @@
 //! The entries of the dynamic table, and the segments, before anything has an address.
 
-ghost use Rattle.std.specs.Prelude.{◌≡◌, ◌++◌, ◌||◌, OnOk, IfOk, nat_lt, length, map, count_by};
-ghost use Rattle.elf_head.specs.DynTable.TagNumbers.{dt_needed};
+ghost use Rattle.std.specs.Prelude.{◌≡◌, ◌++◌, ◌||◌, OnOk, IfOk, count_by};
 ghost use Rattle.asm_write.specs.Sizes.{tells_number, tells_start, tells_size, where_some, name_entries, symbol_entries, flag_entries};
 ghost use Rattle.asm_write.specs.Sizes.{is_listed, is_packed, array_entries, arrays_entries, reloc_entries, version_entries, dynamic_entries, count_in};
 ghost use Rattle.asm_write.specs.Sizes.{has_listed, has_packed, has_run, has_written, has_tls, segment_if, segments_of};

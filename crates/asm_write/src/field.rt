@@ -1,6 +1,6 @@
 //! Little-endian fields (gABI, "Data Representation").
 
-ghost use Rattle.std.specs.Prelude.{◌≡◌, ◌++◌, OnOk, flat_map};
+ghost use Rattle.std.specs.Prelude.{◌≡◌, ◌++◌, OnOk};
 ghost use Rattle.asm_write.specs.Fields.{field_bytes, record_bytes};
 
 use std::alloc::AllocError;

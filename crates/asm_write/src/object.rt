@@ -1,9 +1,7 @@
 //! The bytes of an object.
 
 ghost use Rattle.std.specs.Prelude.{◌≡◌, ◌++◌, ◌∷◌, ◌-◌, IfOk, OnOk, [], fold, length, replicate};
-ghost use Rattle.asm_write.specs.Fields.{record_bytes};
 ghost use Rattle.asm_write.specs.Records.{head_fields};
-ghost use Rattle.asm_write.specs.Starts.{start_in};
 ghost use Rattle.asm_write.specs.Values.{entry_of, head_bytes, dynamic_bytes, relr_bytes, packed_places, part_bytes, joined, join_part, object_bytes};
 
 use crate::contents::{Contents, Fix, SectionBytes, Spot};

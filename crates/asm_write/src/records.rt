@@ -1,7 +1,7 @@
 //! The records of an object's tables.
 
 ghost use Rattle.std.specs.Prelude.{◌≡◌};
-ghost use Rattle.asm_write.specs.Records.{type_of, head_fields, is_tls, offset_in, defined_value, symbol_value, section_index};
+ghost use Rattle.asm_write.specs.Records.{type_of, head_fields, is_tls, offset_in, symbol_value, section_index};
 ghost use Rattle.asm_write.specs.Records.{symbol_fields, reloc_type, target_symbol, fix_addend, rela_fields, slot_fields, file_word};
 ghost use Rattle.asm_write.specs.Records.{version_fields, need_fields, needed_fields, told_value, dynamic_fields, header_fields};
 

@@ -1,7 +1,7 @@
 //! The words of packed relative relocations (gABI, "Relative Relocation Table").
 
-ghost use Rattle.std.specs.Prelude.{◌≡◌, ◌++◌, ◌<◌, ◌^◌, ℕ, suc, OnOk, IfOk, Some, None, List};
-ghost use Rattle.asm_write.specs.Relr.{is_in_map, bit_of, with_place, map_of, mapped_count, words_within, relr_words};
+ghost use Rattle.std.specs.Prelude.{◌≡◌, ◌<◌, ℕ, suc, IfOk, Some, None};
+ghost use Rattle.asm_write.specs.Relr.{is_in_map, bit_of, with_place, map_of, mapped_count, relr_words};
 ghost use Rattle.asm_write.specs.Packing.{left};
 
 use std::alloc::{AllocError, Global};

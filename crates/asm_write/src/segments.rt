@@ -1,8 +1,7 @@
 //! Program headers.
 
-ghost use Rattle.std.specs.Prelude.{◌≡◌, ◌≤◌, ◌<◌, ◌^◌, ◌*◌, map};
-ghost use Rattle.asm_write.specs.Parts.{number_of};
-ghost use Rattle.asm_write.specs.Records.{header_type, header_flags, first_part, parts_with_bytes, end_behind, end_of, file_end, file_size};
+ghost use Rattle.std.specs.Prelude.{◌≡◌, ◌*◌};
+ghost use Rattle.asm_write.specs.Records.{header_type, header_flags, first_part, end_behind, end_of, file_end, file_size};
 ghost use Rattle.asm_write.specs.Records.{block_end, page_end, memory_end, header_align, header_of};
 ghost use Rattle.asm_write.specs.Starts.{padding};
 

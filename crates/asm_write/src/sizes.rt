@@ -1,6 +1,6 @@
 //! How many bytes the parts of an object have, and what their starts are multiples of.
 
-ghost use Rattle.std.specs.Prelude.{◌≡◌, ◌<◌, ◌^◌, ◌∷◌, ◌++◌, IfOk, IfSome, length, map, Some};
+ghost use Rattle.std.specs.Prelude.{◌≡◌, ◌<◌, ◌^◌, IfOk, IfSome, length, map, Some};
 ghost use Rattle.std.specs.Option.{option_map_or};
 ghost use Rattle.asm_write.specs.Sizes.{gnu_size, sysv_size, versym_size, plt_size, got_plt_size, plain_size, segments_of, dynamic_entries};
 ghost use Rattle.asm_write.specs.Starts.{tls_start_align, align_of, plain_extent};

@@ -1,11 +1,9 @@
 //! The bytes of an object's tables.
 
-ghost use Rattle.std.specs.Prelude.{◌≡◌, ◌++◌, ◌%◌, ◌^◌, ◌∷◌, [], OnOk, IfOk, flat_map, map, filter, length, replicate};
+ghost use Rattle.std.specs.Prelude.{◌≡◌, ◌++◌, ◌%◌, ◌^◌, OnOk, IfOk, flat_map};
 ghost use Rattle.std.specs.Int.{w64, to_le_bytes};
 ghost use Rattle.asm_write.specs.Fields.{record_bytes};
 ghost use Rattle.asm_write.specs.Records.{version_fields, rela_fields, symbol_fields};
-ghost use Rattle.asm_write.specs.Sizes.{has_listed, has_packed, stands_in};
-ghost use Rattle.asm_write.specs.Starts.{start_in, wrapped};
 ghost use Rattle.asm_write.specs.Values.{words, doublewords, count_word, gnu_bytes, sysv_bytes, symbol_bytes, versym_bytes};
 ghost use Rattle.asm_write.specs.Values.{verneed_bytes, listed_bytes, rela_bytes, jmprel_bytes, word_in, fixed_bytes, lazy_words, slot_words};
 

@@ -1,6 +1,6 @@
 //! The arguments of a form, as the kit's reader of command lines is told of them.
 
-ghost use Rattle.std.specs.Prelude.{◌≡◌, IfOk, Some, false, fold, map};
+ghost use Rattle.std.specs.Prelude.{◌≡◌, IfOk, false, fold, map};
 ghost use Rattle.clap.specs.Simple.{app_of, new_rule, with_rule};
 ghost use Rattle.clap.specs.Walk.{rule_of};
 ghost use Rattle.cli_read.specs.ClapWords.Forms.{action_for, app_of as app_of_form, id_of, names_of, option_rule, options_of};

@@ -1,6 +1,6 @@
 //! What the values of options say.
 
-ghost use Rattle.std.specs.Prelude.{◌≡◌, ◌<◌, ◌-◌, ◌^◌, ℕ, List, IfOk, IfSome, IsTrue, None, ◌↔◌, length};
+ghost use Rattle.std.specs.Prelude.{◌≡◌, ◌<◌, ◌-◌, ◌^◌, ℕ, List, IfOk, IfSome, IsTrue, None, ◌↔◌};
 ghost use Rattle.std.specs.Option.{option_copied};
 ghost use Rattle.cli_words.specs.Values.{AreParts, IsFuel, IsNumber, parts_by};
 ghost use Rattle.cli_read.specs.Judged.{HasFolders, HasHarts, HasPreloads, parts_in};

@@ -1,13 +1,12 @@
 //! The lines that `bind` writes.
 
-ghost use Rattle.std.specs.Prelude.{◌≡◌, ◌++◌, ◌<◌, length, flat_map, true, OnOk, Some, IfSome};
-ghost use Rattle.std.specs.List.{slice_get, enumerate_from};
+ghost use Rattle.std.specs.Prelude.{◌≡◌, ◌++◌, ◌<◌, flat_map, true, OnOk, Some};
 ghost use Rattle.std.specs.Option.{option_copied};
 ghost use Rattle.std.specs.String.{string_bytes};
 ghost use Rattle.scope_rule.specs.Choose.{want_of};
-ghost use Rattle.scope_rule.specs.Relocation.{choice_at, names_symbols};
+ghost use Rattle.scope_rule.specs.Relocation.{names_symbols};
 ghost use Rattle.sym_lookup.specs.Looking.{want_for};
-ghost use Rattle.cli_text.specs.Lines.{object_line, choice_text, version_of, slot_text, numbered_line, slot_lines};
+ghost use Rattle.cli_text.specs.Lines.{object_line, choice_text, version_of, slot_text, slot_lines};
 
 use ld_base::{Choice, Loaded, Name, Symbol, Want};
 use std::alloc::AllocError;

@@ -8,7 +8,7 @@ ghost use Rattle.scope_rule.specs.Seen.{seen_in};
 ghost use Rattle.scope_lists.specs.Lists.{AreListed, AreListsOf, IsListedAt};
 ghost use Rattle.sym_lookup.specs.Looking.{HaveTables};
 ghost use Rattle.cli_text.specs.Binding.{IsBinding};
-ghost use Rattle.cli_text.specs.Lines.{bound_text, object_line, slot_lines, slots_text};
+ghost use Rattle.cli_text.specs.Lines.{bound_text, slot_lines, slots_text};
 ghost use Rattle.cli_text.specs.Refusal.{first_refusal, refusal_of};
 
 use crate::lines::{write_each_slot, write_objects};

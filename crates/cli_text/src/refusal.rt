@@ -1,7 +1,6 @@
 //! What `bind` refuses of an object.
 
-ghost use Rattle.std.specs.Prelude.{◌≡◌, ◌<◌, ◌^◌, length, true, Some, IfOk};
-ghost use Rattle.std.specs.List.{slice_get};
+ghost use Rattle.std.specs.Prelude.{◌≡◌, ◌<◌, length, true, Some, IfOk};
 ghost use Rattle.scope_rule.specs.Relocation.{names_symbols};
 ghost use Rattle.cli_text.specs.Refusal.{missing_symbol, refusal_at, first_missing, refusal_of};
 ghost use Rattle.cli_text.specs.Named.{AreNamed};

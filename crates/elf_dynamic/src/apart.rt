@@ -1,6 +1,6 @@
 //! Ranges of addresses that lie apart.
 
-ghost use Rattle.std.specs.Prelude.{◌≡◌, ◌↔◌, ◌+◌, ◌<◌, ◌≤◌, ◌^◌, ◌++◌, ◌∷◌, [], true, false, List, IfOk, IsTrue, cond};
+ghost use Rattle.std.specs.Prelude.{◌≡◌, ◌↔◌, ◌+◌, ◌<◌, ◌≤◌, ◌^◌, [], true, false, List, IfOk, IsTrue};
 ghost use Rattle.std.specs.List.{list_any};
 ghost use Rattle.ld_base.specs.declared.object.Span.{Span};
 ghost use Rattle.elf_dynamic.specs.Ends.{IsMet, LieApart};

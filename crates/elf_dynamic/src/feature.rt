@@ -6,7 +6,7 @@ ghost use Rattle.ld_base.specs.Symbol.{binding, is_defined, type_of};
 ghost use Rattle.elf_dynamic.specs.Feature.{number_of};
 ghost use Rattle.elf_dynamic.specs.Rules.{has_open_segment, has_type, is_exec, is_other_type, refused_feature};
 ghost use Rattle.elf_head.specs.DynTable.Tag.{has, has_flag};
-ghost use Rattle.elf_head.specs.DynTable.TagNumbers.{dt_flags, dt_rel, dt_textrel};
+ghost use Rattle.elf_head.specs.DynTable.TagNumbers.{dt_flags, dt_textrel};
 
 use crate::memory::{is_executable, is_loaded, is_writable};
 use crate::symbol_rules::{STB_GNU_UNIQUE, binding_of};

@@ -1,6 +1,6 @@
 //! What is asked of the relocations that aren't slots (psABI, "Relocations").
 
-ghost use Rattle.std.specs.Prelude.{◌≡◌, ◌<◌, ◌≤◌, ◌+◌, ◌^◌, [], None, false, length, map, MatchResult};
+ghost use Rattle.std.specs.Prelude.{◌≡◌, ◌<◌, ◌≤◌, ◌^◌, [], None, false, length, map, MatchResult};
 ghost use Rattle.elf_dynamic.specs.Judged.{rela_broken, reloc_broken, FaultIs, IsJudged};
 ghost use Rattle.elf_dynamic.specs.Memory.{AreLow};
 ghost use Rattle.elf_dynamic.specs.Named.{doubleword, named_by, size_of};

@@ -1,6 +1,6 @@
 //! Which names have to be strings (rule 12).
 
-ghost use Rattle.std.specs.Prelude.{◌≡◌, ◌==◌, ◌||◌, ◌&&◌, ◌*◌, ◌≤◌, ℕ, not, nat_lt, drop, find, length, option_map};
+ghost use Rattle.std.specs.Prelude.{◌≡◌, ◌==◌, ◌||◌, ◌&&◌, ◌*◌, ◌≤◌, ℕ, nat_lt, drop, find, length, option_map};
 ghost use Rattle.std.specs.List.{list_any};
 ghost use Rattle.elf_head.specs.DynTable.Symbol.{symbol_name};
 ghost use Rattle.elf_dynamic.specs.Rules.{bad_string, lacks_string, name_offsets, unnamed_symbol};

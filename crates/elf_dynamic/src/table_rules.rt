@@ -1,11 +1,9 @@
 //! Which tables an object has to have, and where (rules 11 and 12).
 
-ghost use Rattle.std.specs.Prelude.{◌≡◌, ◌==◌, ◌||◌, ◌&&◌, ◌*◌, ◌+◌, ◌%◌, ◌≤◌, ◌<◌, ◌^◌, not, true, false, length};
-ghost use Rattle.std.specs.Option.{option_map_or};
-ghost use Rattle.elf_head.specs.Rules.{head_verdict};
-ghost use Rattle.elf_dynamic.specs.Rules.{are_addresses, bad_table, has_bad_array, has_bad_gnu_hash, has_bad_hash, has_bad_jmprel, has_bad_rela};
-ghost use Rattle.elf_dynamic.specs.Rules.{has_bad_relr, has_bad_strings, has_bad_symbols, has_entries, is_bad_table, is_readable, lacks_count};
-ghost use Rattle.elf_dynamic.specs.Rules.{lacks_string, lacks_symbols};
+ghost use Rattle.std.specs.Prelude.{◌≡◌, ◌==◌, ◌||◌, ◌&&◌, ◌*◌, ◌%◌, ◌<◌, ◌^◌, not, true, false};
+ghost use Rattle.elf_dynamic.specs.Rules.{bad_table, has_bad_array, has_bad_gnu_hash, has_bad_hash, has_bad_jmprel, has_bad_rela};
+ghost use Rattle.elf_dynamic.specs.Rules.{has_bad_relr, has_bad_strings, has_bad_symbols, has_entries, is_readable, lacks_count};
+ghost use Rattle.elf_dynamic.specs.Rules.{lacks_symbols};
 
 use crate::tables::{rela_span, span_of};
 use elf_head::{

@@ -1,7 +1,7 @@
 //! Where the tables of an object stand, and what they say (gABI, "Dynamic Section").
 
-ghost use Rattle.std.specs.Prelude.{◌≡◌, ◌==◌, ◌+◌, ◌*◌, ◌≤◌, ◌<◌, ◌^◌, Ok, Some, IfOk, IfSome, find, fold, length, max, option_map};
-ghost use Rattle.std.specs.Option.{option_copied, option_and_then, option_map_or};
+ghost use Rattle.std.specs.Prelude.{◌≡◌, ◌==◌, ◌+◌, ◌<◌, ◌^◌, Ok, Some, IfOk, IfSome, find, fold, length, max};
+ghost use Rattle.std.specs.Option.{option_copied};
 ghost use Rattle.elf_head.specs.Rules.{head_verdict};
 ghost use Rattle.ld_base.specs.declared.object.Reloc.{Reloc};
 ghost use Rattle.elf_dynamic.specs.Tables.{bytes_in, dynamic_tags, flags_of, first_exported, is_tail, less_tail, named_count, plt_span, rela_span, span_of};

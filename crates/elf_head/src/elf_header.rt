@@ -1,6 +1,6 @@
 //! The ELF header (gABI, "ELF Header"; psABI, "File Header").
 
-ghost use Rattle.std.specs.Prelude.{◌≡◌, ◌≤◌, not, length};
+ghost use Rattle.std.specs.Prelude.{◌≡◌, ◌≤◌, length};
 ghost use Rattle.elf_head.specs.AcceptancePart.Broken.{first_broken};
 ghost use Rattle.elf_head.specs.Rules.{header_rules, is_not_class64_little, has_bad_program_headers, kind_of};
 

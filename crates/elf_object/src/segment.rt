@@ -1,6 +1,6 @@
 //! Segments of an object (gABI, "Program Header" and "Program Loading").
 
-ghost use Rattle.std.specs.Prelude.{◌≡◌, ◌++◌, ◌+◌, ◌≤◌, ◌<◌, ◌∷◌, [], Ok, OnOk, OnErr, IfOk, length, if◌then◌else◌, IsTrue};
+ghost use Rattle.std.specs.Prelude.{◌≡◌, ◌++◌, ◌+◌, ◌≤◌, ◌<◌, ◌∷◌, [], Ok, OnOk, IfOk, length, if◌then◌else◌, IsTrue};
 ghost use Rattle.elf_head.specs.Header.{is_loaded};
 ghost use Rattle.elf_head.specs.Rules.{head_verdict};
 ghost use Rattle.elf_object.specs.Segments.{dynamic_of, relro_of, segment_at, segments_of, tls_of};

@@ -1,5 +1,5 @@
 -- What it is for version tables to say something, and to break a rule: as relations.
-use Rattle.std.specs.Prelude.{◌≡◌, ◌⊎◌, ℕ, ◌+◌, ◌*◌, ◌%◌, ◌==◌, ◌<◌, ◌≤◌, Bool, false, IsTrue, is_some, List, [], ◌∷◌, ◌++◌, length, sum_by, Some, None}
+use Rattle.std.specs.Prelude.{◌≡◌, ◌⊎◌, ℕ, ◌+◌, ◌*◌, ◌%◌, ◌==◌, ◌<◌, ◌≤◌, Bool, false, is_some, List, [], ◌∷◌, ◌++◌, length, sum_by, Some, None}
 use Rattle.std.specs.List.{slice_get}
 use Rattle.ld_base.specs.Field.{field}
 use Rattle.ld_base.specs.declared.fault.NotAccepted.{NotAccepted}

@@ -3,7 +3,6 @@
 ghost use Rattle.std.specs.Prelude.{◌≡◌, ◌+◌, ◌≤◌, IfOk, length, map, sum_by};
 ghost use Rattle.std.specs.Result.{result_map_both};
 ghost use Rattle.elf_head.specs.AcceptancePart.Gives.{Gives};
-ghost use Rattle.elf_versions.specs.Linked.{is_linked};
 ghost use Rattle.elf_versions.specs.Record.{distance};
 ghost use Rattle.elf_head.specs.DynTable.Name.{string_in};
 ghost use Rattle.elf_versions.specs.Names.{need_of, needed};

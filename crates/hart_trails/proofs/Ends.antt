@@ -155,11 +155,6 @@ spares_at [] k h reason spares at = none-some (Ended h reason) at
 spares_at (e ∷ events) zero h reason spares at = let same : e ≡ Ended h reason = cc in false≢true (sym (ap neither_ends_nor_unmaps same) ∙ spares.0)
 spares_at (e ∷ events) (suc k) h reason spares at = spares_at events k h reason spares.1 at
 
-front_at : (front : List Event) (e : Event) (k : ℕ) → k < length front → slice_get (front ++ e ∷ []) k ≡ slice_get front k
-front_at [] e k low = absurd (omega (arith, low))
-front_at (x ∷ front) e zero low = refl
-front_at (x ∷ front) e (suc k) low = front_at front e k (omega (arith, low))
-
 none_ends : (journal : List Event) (h from to : ℕ) → HasNone journal h from to → NoneEnds journal h from to
 none_ends journal h from to none k reason low high at = none k (Ended h reason) low high at refl
 

@@ -13,7 +13,6 @@ use Rattle.rv_hart.specs.Registers.{Registers}
 use Rattle.word_rule.specs.declared.view.TrailItem.{TrailItem}
 use Rattle.history_state.specs.After.{after}
 use Rattle.history_state.specs.Setting.{Setting}
-use Rattle.history_state.specs.State.{State}
 use Rattle.hart_moves.specs.Due.{Due, by_phase, by_resolving, due}
 use Rattle.hart_moves.specs.Follows.{Turned}
 use Rattle.hart_moves.specs.Harts.{HartState, Purpose, Resolving}

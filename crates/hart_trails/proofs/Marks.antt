@@ -1,5 +1,5 @@
 -- In a whole trail an answer on thread-local storage that is no event is the first of its module and generation.
-use Rattle.std.proofs.Common.{◌≡◌, ◌≢◌, ◌+◌, ℕ, zero, suc, ◌≤◌, ◌<◌, Bool, true, false, ◌&&◌, ◌==◌, eqb, ne_eqb, if◌then◌else◌, List, [], ◌∷◌, ◌++◌, length, map, take, append-nil, append_assoc, Option, None, Some, Contains, refl, sym, ap, subst, ◌∙◌, arith}
+use Rattle.std.proofs.Common.{◌≡◌, ◌≢◌, ◌+◌, ℕ, suc, ◌≤◌, ◌<◌, Bool, true, false, ◌&&◌, ◌==◌, ne_eqb, if◌then◌else◌, List, [], ◌∷◌, ◌++◌, length, map, take, append-nil, append_assoc, Option, None, Some, Contains, refl, sym, ap, subst, ◌∙◌, arith}
 use mathlib.Core.Logic.{dite}
 use native.Mathlib.Decide.{ℕ_discrete}
 use Rattle.std.proofs.lemmas.Bool.{false≢true}
@@ -11,7 +11,7 @@ use Rattle.rv_hart.specs.Items.{items_left}
 use Rattle.rv_hart.specs.Registers.{Registers}
 use Rattle.word_rule.specs.declared.entry.Entry.{Entry}
 use Rattle.word_rule.specs.declared.view.TrailItem.{TrailItem}
-use Rattle.word_rule.specs.declared.view.TrailItem.TheVariants.{Call, Took, Generation as ReadGeneration}
+use Rattle.word_rule.specs.declared.view.TrailItem.TheVariants.{Call, Took}
 use Rattle.word_rule.specs.Generations.{AllKept, IsUnmarked, MarksOnce}
 use Rattle.word_rule.specs.Lemmas.Trails.{unmarked_once}
 use Rattle.word_rule.specs.Views.{NoneLater, entries_by, entries_of, is_block, last_block, later_block}
@@ -22,15 +22,14 @@ use Rattle.history_state.specs.State.{State}
 use Rattle.history_state.specs.Storage.{tls_block}
 use Rattle.tls_blocks.specs.Numbers.{module_at}
 use Rattle.history_calls.specs.Call.{locates}
-use Rattle.hart_moves.specs.Due.{Due, Return, due}
+use Rattle.hart_moves.specs.Due.{Due, due}
 use Rattle.hart_moves.specs.Follows.{Turned}
 use Rattle.hart_moves.specs.Harts.{HartState}
 use Rattle.hart_moves.specs.Moves.{Did, events_of}
-use Rattle.hart_moves.specs.Starting.{HartStart}
 use Rattle.hart_moves.specs.Trails.{Beside, Located, beside_of, block_of, located_by}
 use Rattle.hart_trails.specs.Entries.{block_entry, entry_behind}
 use Rattle.hart_trails.specs.Laws.{MarksFollow}
-use Rattle.hart_trails.specs.Trails.{FollowsBy, Leaves, LeavesBehind, LeavesToItsEnd, Reads, is_granting, is_located, took_by, took_behind}
+use Rattle.hart_trails.specs.Trails.{FollowsBy, Leaves, LeavesBehind, Reads, is_granting, is_located, took_by, took_behind}
 
 -- ---- lists
 

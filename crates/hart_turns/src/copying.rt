@@ -1,6 +1,6 @@
 //! The turn of a doubleword that is copied.
 
-ghost use Rattle.std.specs.Prelude.{◌≡◌, ℕ, ◌<◌, List, [], ◌∷◌};
+ghost use Rattle.std.specs.Prelude.{◌≡◌, ℕ, ◌<◌, List};
 ghost use Rattle.history_event.specs.declared.event.Event.{Event};
 ghost use Rattle.history_state.specs.Setting.{Setting};
 ghost use Rattle.history_state.specs.State.{State};

@@ -1,8 +1,6 @@
 //! A bus whose stores are noticed.
 
-ghost use Rattle.std.specs.Prelude.{◌≡◌, ◌<◌, ◌*◌, ◌^◌, false, IfOk};
-ghost use Rattle.rv_isa.specs.Encoding.{IsAtomicSize};
-ghost use Rattle.rv_hart.specs.Buses.{HasValue, IsSize, Permits, may_fetch, may_read, may_write};
+ghost use Rattle.std.specs.Prelude.{◌≡◌, ◌<◌, false};
 
 use rv_hart::{Bus, BusFault};
 use rv_isa::AmoOp;
@@ -32,7 +30,6 @@ impl<'a, B: Bus> Watched<'a, B> {
 
 impl<'a, B: Bus> Bus for Watched<'a, B> {
     ghost use Rattle.std.specs.Prelude.{◌≡◌, ◌||◌};
-    ghost use Rattle.rv_hart.specs.declared.bus.Item.{Item};
     ghost use Rattle.hart_moves.specs.Moves.{is_store};
 
     ghost does = { λ before item after. (after.bus.ghost_name ≡ before.bus.ghost_name) × B.does before.bus.now item after.bus.now

@@ -1,4 +1,4 @@
-//! What a reader gives is what images and the history ask for: a crate without code.
+//! What a reader gives is what images and the history ask for.
 //!
 //! `seg_image` makes the image of an object and `relocator` relocates it. Both ask that the object is
 //! `Accepted`: facts about an object by itself, so that neither has to know a file. [`one_image`] says

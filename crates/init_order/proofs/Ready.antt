@@ -1,8 +1,8 @@
 -- What is looked at next.
 use Rattle.std.proofs.Common.{◌≡◌, ℕ, ◌<◌, ◌≤◌, ◌⊎◌, inl, inr, ⊎_elim, Bool, true, false, cond, eqb, ltb, List, [], ◌∷◌, length, get_or, refl, sym, ap, subst, ◌∙◌, arith}
 use Rattle.std.specs.List.{Contains, filter, list_any}
-use Rattle.std.specs.Ordering.{nat_cmp, is_eq, is_gt}
-use Rattle.std.proofs.lemmas.Bool.{cases_Bool, cases_eq, cases_lt, eq-eqb, eqb-true, le-ltb, ne_eqb, or_cases, true≢false}
+use Rattle.std.specs.Ordering.{nat_cmp, is_eq}
+use Rattle.std.proofs.lemmas.Bool.{cases_Bool, cases_eq, eq-eqb, eqb-true, le-ltb, ne_eqb, or_cases, true≢false}
 use Rattle.std.proofs.lemmas.List.Elements.{Contains-get_or}
 use Rattle.history_graph.specs.declared.graph.Edge.{Edge}
 use Rattle.history_graph.specs.Reached.{leads_from}
@@ -16,15 +16,6 @@ cmp_is_eqb k q = ⊎_elim
     (λ (lt : ltb k q ≡ true). rw (lt, ne_eqb k q (λ (same : k ≡ q). true≢false (sym lt ∙ le-ltb k q (omega arith)))) refl)
     (λ (ge : ltb k q ≡ false). ⊎_elim (λ (same : eqb k q ≡ true). rw (ge, same) refl) (λ (apart : eqb k q ≡ false). rw (ge, apart) refl) (cases_Bool (eqb k q)))
     (cases_Bool (ltb k q))
-
-pub cmp_low : (k q : ℕ) → is_gt (nat_cmp k q) ≡ false → k ≤ q
-cmp_low k q h = ⊎_elim
-    (λ (high : q < k). absurd (true≢false (sym (above high) ∙ h)))
-    (λ (low : k ≤ q). low)
-    (cases_lt q k)
-  where
-    above : q < k → is_gt (nat_cmp k q) ≡ true
-    above high = rw (le-ltb k q (omega arith), ne_eqb k q (λ (e : k ≡ q). omega arith)) refl
 
 -- ---- the needs of a task
 

@@ -1,5 +1,5 @@
 -- The last part of the path becomes a component.
-use Rattle.std.proofs.Common.{◌≡◌, ℕ, ◌+◌, ◌-◌, ◌<◌, ◌≤◌, ◌⊎◌, inl, inr, ⊎_elim, Bool, true, false, cond, eqb, List, [], ◌∷◌, ◌++◌, length, get_or, take, drop, Option, Some, None, refl, sym, ap, subst, ◌∙◌, arith}
+use Rattle.std.proofs.Common.{◌≡◌, ℕ, ◌+◌, ◌-◌, ◌<◌, ◌≤◌, ◌⊎◌, inl, inr, ⊎_elim, Bool, true, false, cond, eqb, List, [], ◌∷◌, ◌++◌, length, get_or, take, drop, Option, Some, refl, sym, ap, subst, ◌∙◌, arith}
 use Rattle.std.specs.List.{Contains}
 use Rattle.std.proofs.lemmas.Bool.{cases_eq, cases_lt, cases_Bool, ne_eqb, true≢false, eq-eqb, eqb-true, or_cases, or_left, or_right}
 use Rattle.std.proofs.lemmas.List.{get_or-take, get_or-drop, length-take-le, length-drop}
@@ -56,9 +56,6 @@ same_component c d h = cc
 
 some_same : (m n : Mark) → Some m ≡ Some n → m ≡ n
 some_same m n h = cc
-
-none_some : (m : Mark) → ◌≡◌ {A = Option Mark} None (Some m) → ⊥
-none_some m h = cc
 
 module _ (edges : List Edge) (marks more : ℕ → Option Mark) (path front : List ℕ) (start : ℕ) (pending : List Step) (visited : List ℕ) (count : ℕ)
     (adds : (q : ℕ) → more q ≡ cond (is_in (drop start path) q) (Some (Settled count)) (marks q))

@@ -1,6 +1,6 @@
 //! Tasks that need one another: of those that may be done the one of the least number is next.
 
-ghost use Rattle.std.specs.Prelude.{◌≡◌, ◌==◌, ◌<◌, ◌≤◌, ℕ, false, true, if◌then◌else◌, filter, length, nat_lt};
+ghost use Rattle.std.specs.Prelude.{◌≡◌, ◌==◌, ◌<◌, ℕ, false, true, if◌then◌else◌, filter, length, nat_lt};
 ghost use Rattle.std.specs.Prelude.{slice_index_or, IfNone, IfOk, IfSome, IsTrue, OnOk, Contains, map};
 ghost use Rattle.std.specs.BTreeSet as tree;
 ghost use Rattle.std.specs.BTreeSet.{btree_set_len};

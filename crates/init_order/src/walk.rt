@@ -1,7 +1,7 @@
 //! Which objects lead to one another: strongly connected components, by one walk along a path
 //! (Gabow, "Path-based depth-first search for strong and biconnected components").
 
-ghost use Rattle.std.specs.Prelude.{◌≡◌, ◌==◌, ◌+◌, ◌-◌, ◌^◌, ◌<◌, ◌≤◌, ◌∷◌, ◌++◌, ℕ, [], true};
+ghost use Rattle.std.specs.Prelude.{◌≡◌, ◌==◌, ◌+◌, ◌-◌, ◌<◌, ◌≤◌, ◌∷◌, ◌++◌, ℕ, []};
 ghost use Rattle.std.specs.Prelude.{if◌then◌else◌, drop, filter, length, map, take, nat_eq, IfSome, IfNone, None, OnOk, Some, Contains};
 ghost use Rattle.std.specs.HashMap.{get};
 ghost use Rattle.init_order.specs.Walked.{Grows, IsWalked, Walked, work, work_of};

@@ -1,9 +1,8 @@
 //! Which definition of one object a reference takes.
 
 ghost use Rattle.std.specs.Prelude.{◌≡◌, ◌⊎◌, IfSome, ◌+◌, ◌&&◌, ◌||◌, ◌==◌, ◌<◌, ◌^◌, not, length, position};
-ghost use Rattle.std.specs.Prelude.{count_by, if◌then◌else◌, None, drop, option_map};
-ghost use Rattle.std.specs.Option.{option_copied, option_or};
-ghost use Rattle.std.specs.List.{find};
+ghost use Rattle.std.specs.Prelude.{count_by, None, option_map};
+ghost use Rattle.std.specs.Option.{option_copied};
 ghost use Rattle.ld_base.specs.Symbol.{is_local, is_weak, is_tls, is_defined, is_absolute, is_visible_definition, version_index, is_hidden_version};
 ghost use Rattle.ld_base.specs.Version.{is_base, verdef_of, verneed_of, version_name};
 ghost use Rattle.ld_base.specs.Pick.{is_offer, has_version, is_wanted, names_no_version, first_exported, only_exported, exported, pick_of};

@@ -1,4 +1,4 @@
-//! The sources of a generated set are accepted: a law; a crate without code.
+//! The sources of a generated set are accepted: a law.
 //!
 //! [`sources_denote`]: each of the sources that `lib_gen` makes denotes an object, by the relation
 //! that the assembler's contract is about, so the assembler refuses none.

@@ -1,4 +1,4 @@
-//! What the sources of a generated set say: laws; a crate without code.
+//! What the sources of a generated set say: laws.
 //!
 //! `specs/Lines` lists the statements of each source line by line. [`sources_say`]: the source's text says them,
 //! by the grammar of the assembler.

@@ -16,7 +16,8 @@ use link_state::{CloseFault, LinkState};
 use std::alloc::{AllocError, Global};
 
 /// Closes a handle once (dlclose(3)). Where nothing needs some objects any more, the hart is to run their
-/// destructors, and then they are to be unmapped.
+/// destructors, and then they are to be unmapped. A handle of no opening that may be closed is refused
+/// (bad-handle).
 pub fn dlclose(alloc: Global, state: &mut LinkState, hart: HartId, handle: u64) -> Served
     ensures served { ComesIn state.old hart (closes handle) result state.new }
     ensures harts { state.new.harts ≡ state.old.harts }

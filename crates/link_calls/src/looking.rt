@@ -20,7 +20,9 @@ use std::alloc::{AllocError, Global};
 
 /// Looks a name up for a caller in a namespace (dlsym(3)): on the handle 0 among all that is global there, and
 /// on another in what its object leads to. A variable of thread-local storage is in the hart's block, which is
-/// made at its first use.
+/// made at its first use. Refused are a name that is too long (name-too-long), a handle other than 0 that isn't
+/// open (bad-handle), a name without a definition (missing-symbol), and a block for which there is no room
+/// (address-space-full).
 pub fn dlsym(
     alloc: Global,
     state: &mut LinkState,

@@ -1,6 +1,6 @@
 //! Openings.
 
-ghost use Rattle.std.specs.Prelude.{◌≡◌, ◌≤◌, ℕ, List, false, length, Some, IfOk, OnErr};
+ghost use Rattle.std.specs.Prelude.{◌≡◌, ◌≤◌, false, Some, IfOk, OnErr};
 ghost use Rattle.std.specs.Option.{option_copied};
 ghost use Rattle.history_calls.specs.CallLaws.Coming.{NeedsNoRead, refusal_of};
 ghost use Rattle.history_calls.specs.CallLaws.Counts.{ArePaths, ShowsInCounts};

@@ -22,11 +22,6 @@ pushed_at {X} (z ∷ xs) y (suc k) x at = ⊎_elim
     (λ (h : (y ≡ x) × (k ≡ length xs)). inr (h.0, ap suc h.1))
     (pushed_at xs y k x at)
 
-pub some_within : {X : Type 0} (xs : List X) (k : ℕ) (x : X) → slice_get xs k ≡ Some x → k < length xs
-some_within [] k x at = absurd (let d : None ≡ Some x = at in cc)
-some_within (y ∷ xs) zero x at = omega arith
-some_within (y ∷ xs) (suc k) x at = omega (arith, some_within xs k x at)
-
 -- a list is its first element and the rest
 pub split : {X : Type 0} (xs : List X) (d : X) → 0 < length xs → xs ≡ get_or xs 0 d ∷ take (length xs - 1) (drop 1 xs)
 split [] d some = absurd (omega (arith, some))

@@ -1,15 +1,12 @@
 -- The worked starts.
-use Rattle.std.proofs.Common.{◌≡◌, ℕ, true, false, zero, suc, inl, inr, List, [], ◌∷◌, length, map, None, Some, refl, sym, ap, subst, ◌∙◌, arith}
-use Rattle.std.specs.Prelude.{codes, IsTrue}
+use Rattle.std.proofs.Common.{◌≡◌, ℕ, false, inl, List, [], ◌∷◌, length, map, refl, sym, ap, arith}
+use Rattle.std.specs.Prelude.{codes}
 use Rattle.std.proofs.lemmas.Bool.{true≢false}
 use Rattle.ld_base.specs.declared.fault.DlFault.{DlFault}
 use Rattle.ld_base.specs.declared.fault.DlFault.TheVariants.{MissingLibrary}
 use Rattle.ld_base.specs.declared.linking.File.{File}
 use Rattle.ld_base.specs.declared.linking.Loaded.{Loaded}
 use Rattle.history_event.specs.declared.event.Event.{Event}
-use Rattle.history_event.specs.declared.event.Event.TheVariants.{Open, Sym}
-use Rattle.history_event.specs.declared.event.OpenAnswer.TheVariants as openings
-use Rattle.history_event.specs.declared.event.Range.{Range}
 use Rattle.history_event.specs.declared.handed.HartEntry.{HartEntry}
 use Rattle.scope_rule.specs.Breadth.{breadth}
 use Rattle.scope_rule.specs.Choose.{pick_at}
@@ -39,14 +36,14 @@ use Rattle.history_state.specs.Lemmas.Raced.{race_legal}
 use Rattle.history_calls.specs.Lemmas.Readings.{reading_told, told_reads}
 use Rattle.history_calls.specs.Laws.{FailsOneWay, StartsOrFails}
 use Rattle.history_calls.specs.declared.link_served.startup.Setup.{Setup}
-use Rattle.history_calls.specs.Startup.{FailsToStart, FindHarts, FindsStart, IsSetUp, LacksHart, Starts, entries_from, found_at, hart_ask, is_executable}
+use Rattle.history_calls.specs.Startup.{FailsToStart, FindsStart, IsSetUp, entries_from, found_at, is_executable}
 use Rattle.history_calls.specs.Startup.{opening, program_ask}
 use Rattle.history_calls.specs.Startup.FindHarts.{no_more, one_more}
 use Rattle.history_calls.specs.Startup.LacksHart.{is_not_code, is_refused}
 use Rattle.history_calls.specs.Startup.FailsToStart.{is_not_opened, lacks_hart}
 use Rattle.link_startup.specs.Worked.{HasNoProgram, LacksName, LacksNameOfTwo, LooksOn, SharesAStack, StartsInData, StartsTwo, StopsAtData}
 use Rattle.link_startup.specs.Worked.{at_data, both_found, data_found, data_setting, h2_missing, h2_refused, holder, lacks_first, one_hart, prog_placed}
-use Rattle.link_startup.specs.Worked.{prog_ranges, setup_of, three_harts, three_ranges, two_harts}
+use Rattle.link_startup.specs.Worked.{prog_ranges, setup_of, three_harts, three_ranges}
 
 -- ---- two harts
 

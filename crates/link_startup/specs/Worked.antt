@@ -1,5 +1,5 @@
 -- Worked starts of runs, each with one that it isn't.
-use Rattle.std.specs.Prelude.{ℕ, false, List, [], ◌∷◌, ◌++◌, Some, None, codes}
+use Rattle.std.specs.Prelude.{ℕ, false, List, [], ◌∷◌, ◌++◌, None, codes}
 use Rattle.ld_base.specs.declared.fault.DlFault.{DlFault}
 use Rattle.ld_base.specs.declared.fault.DlFault.TheVariants.{MissingLibrary, MissingSymbol, NotCode}
 use Rattle.ld_base.specs.declared.linking.Loaded.{Loaded}
@@ -9,7 +9,6 @@ use Rattle.history_event.specs.declared.event.OpenAnswer.TheVariants as openings
 use Rattle.history_event.specs.declared.event.Range.{Range}
 use Rattle.history_event.specs.declared.event.SymAnswer.TheVariants as symbols
 use Rattle.history_event.specs.declared.handed.Function.{Function}
-use Rattle.history_event.specs.declared.handed.HartEntry.{HartEntry}
 use Rattle.history_calls.specs.declared.link_served.installs.Installs.{Installs}
 use Rattle.history_calls.specs.declared.link_served.startup.Setup.{Setup}
 use Rattle.history_calls.specs.declared.link_served.startup.Started.{Started}

@@ -1,6 +1,6 @@
 //! New objects and their constructors.
 
-ghost use Rattle.std.specs.Prelude.{◌≡◌, ◌∷◌, ◌++◌, [], List, map, IfOk, OnErr, OnOk};
+ghost use Rattle.std.specs.Prelude.{◌≡◌, List, map, IfOk, OnErr, OnOk};
 ghost use Rattle.history_calls.specs.CallLaws.Laws.{AreNumberedFrom};
 ghost use Rattle.link_images.specs.ImageReads.Reads.{ArePrepared};
 ghost use Rattle.ld_base.specs.declared.linking.Loaded.{Loaded};

@@ -1,6 +1,6 @@
 //! The part of a load that reads files.
 
-ghost use Rattle.std.specs.Prelude.{◌≡◌, ◌≤◌, ℕ, List, Result, length};
+ghost use Rattle.std.specs.Prelude.{◌≡◌, List, Result};
 ghost use Rattle.ld_base.specs.declared.linking.Loaded.{Loaded};
 ghost use Rattle.load_walk.specs.Files.{is_program};
 ghost use Rattle.load_walk.specs.Staging.{Drives, Source, Stage, Reads, TakesBytes, Turns, source_of};

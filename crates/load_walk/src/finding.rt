@@ -1,6 +1,6 @@
 //! Finding the object that a name stands for, without reading anything.
 
-ghost use Rattle.std.specs.Prelude.{◌≡◌, ◌<◌, ◌+◌, ◌++◌, ◌∷◌, [], ℕ, List, length, map, IfOk, OnOk, IfSome, position};
+ghost use Rattle.std.specs.Prelude.{◌≡◌, ◌<◌, ◌+◌, ◌++◌, ◌∷◌, [], ℕ, List, length, IfOk, OnOk, position};
 ghost use Rattle.std.specs.Option.{option_copied};
 ghost use Rattle.scope_rule.specs.Finding.{Reading, is_named, with_soname, with_path, at_soname, at_path, is_path, in_folders, candidates};
 ghost use Rattle.scope_rule.specs.Load.{use_of, find_path, find_paths, find_opened, find_needed, find_root, finds};
@@ -144,7 +144,7 @@ pub(crate) fn candidates(alloc: Global, folders: &[Name], name: &[u8]) -> Result
 }
 
 impl Walker {
-    ghost use Rattle.std.specs.Prelude.{◌≡◌, ◌<◌, ◌+◌, ℕ, List, length, IfSome};
+    ghost use Rattle.std.specs.Prelude.{◌≡◌, ◌<◌, ◌+◌, ℕ, List, length};
     ghost use Rattle.scope_rule.specs.Finding.{Reading, candidates};
     ghost use Rattle.scope_rule.specs.Load.{find_path, find_paths, find_opened, find_needed, find_root, finds, present};
     ghost use Rattle.load_walk.specs.Walking.{Means, Searches};

@@ -1,6 +1,6 @@
 //! What tells whether bytes are an object.
 
-ghost use Rattle.std.specs.Prelude.{◌≡◌, ℕ, Bool, List, Result};
+ghost use Rattle.std.specs.Prelude.{ℕ, Bool, List, Result};
 ghost use Rattle.ld_base.specs.declared.fault.NotAccepted.{NotAccepted};
 ghost use Rattle.ld_base.specs.declared.object.Object.{Object};
 ghost use Rattle.ld_base.specs.declared.parts.HashTable.{HashTable};

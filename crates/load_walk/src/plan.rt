@@ -41,7 +41,7 @@ fn gather(alloc: Global, ask: &LoadAsk, walker: Walker) -> Result<(Serial, Added
 
 /// What the root leads to, if every version that the new objects need is there.
 #[tactic(auto, using(crate::proofs::Planning::seen_versions, crate::proofs::Planning::seen_breadth))]
-fn breadth_of(
+fn checked_breadth(
     alloc: Global,
     ns: &Namespace,
     root: Serial,
@@ -69,7 +69,7 @@ fn complete(
     ensures plan { IfOk result (λ plan. Completes ns.now root added plan) }
     ensures fault { IfErr result (λ fault. Incomplete ns.now added fault) }
 {
-    let breadth = breadth_of(alloc, ns, root, added.as_slice())?;
+    let breadth = checked_breadth(alloc, ns, root, added.as_slice())?;
     Ok(LoadPlan {
         root,
         added,

@@ -1,6 +1,6 @@
 //! The records of new objects.
 
-ghost use Rattle.std.specs.Prelude.{◌≡◌, ◌++◌, ◌∷◌, ◌+◌, [], drop, length, take, IfOk};
+ghost use Rattle.std.specs.Prelude.{◌≡◌, drop, take, IfOk};
 ghost use Rattle.scope_rule.specs.Load.{record_of};
 ghost use Rattle.load_walk.specs.Plan.{is_deep};
 ghost use Rattle.load_walk.specs.Records.{AddsRecord, IsShare, added_by, preload_count};

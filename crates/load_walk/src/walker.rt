@@ -50,7 +50,7 @@ fn append_names(alloc: Global, names: &mut Names, more: &[Name]) -> Result<(), A
 }
 
 impl Walker {
-    ghost use Rattle.std.specs.Prelude.{◌≡◌, ◌<◌, ◌+◌, ◌++◌, ◌∷◌, [], ℕ, List, length, IfOk, OnOk, IfSome};
+    ghost use Rattle.std.specs.Prelude.{◌≡◌, ◌<◌, ◌+◌, ◌++◌, ◌∷◌, [], length, IfOk, OnOk, IfSome};
     ghost use Rattle.std.specs.List.{slice_get};
     ghost use Rattle.std.specs.Option.{option_copied};
     ghost use Rattle.load_walk.specs.Walking.{IsWalker, Looks, announced, grown, more_names};

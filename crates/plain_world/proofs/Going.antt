@@ -17,7 +17,7 @@ use Rattle.world_turns.specs.declared.schedules.schedule.TurnItem.{TurnItem}
 use Rattle.world_answers.specs.GuestsPart.GuestWorlds.Coming.{HasEnd}
 use Rattle.world_turns.specs.WorldEnds.Ends.{has_exited}
 use Rattle.world_turns.specs.WorldEnds.Lemmas.Places.{exited_ends}
-use Rattle.world_turns.specs.Run.{RunEnds, Finalises, LacksMemory, Repeats, Rounds, TakesItems, all_harts, has_ended, have_ended, is_starting, settled}
+use Rattle.world_turns.specs.Run.{RunEnds, Finalises, LacksMemory, Repeats, Rounds, TakesItems, has_ended, have_ended, is_starting, settled}
 use Rattle.world_turns.specs.Turn.{TakesTurn, Turn}
 use Rattle.world_turns.specs.World.{World}
 use Rattle.plain_world.specs.Playing.{BeginsToFinalise, FinalisesOnce, FirstRuns, InEachRun, OthersHaveEnded}

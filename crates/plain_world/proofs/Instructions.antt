@@ -1,13 +1,12 @@
 -- An instruction of a hart over guest memory.
 use Rattle.std.proofs.Common.{◌≡◌, ℕ, ◌/◌, ◌-◌, Bool, true, false, List, [], ◌∷◌, Option, Some, None, Result, Ok, Err, refl, sym, ap, subst, ◌∙◌, true≢false}
-use Rattle.std.specs.Prelude.{nat_lt, is_err, is_some, slice_index_or, slice_set}
-use Rattle.std.specs.List.{slice_get}
+use Rattle.std.specs.Prelude.{nat_lt, is_err, is_some}
 use Rattle.std.specs.Option.{option_map}
 use Rattle.std.proofs.lemmas.List.{set-get_or}
 use Rattle.rv_isa.specs.declared.instr.Instr.{Instr}
 use Rattle.rv_hart.specs.Doublewords.{DoesAt, DoesIn, address_of, nowhere, with_word_at, word_at}
 use Rattle.rv_hart.specs.Registers.{Registers}
-use Rattle.rv_hart.specs.Trail.{Begins, Chain, Ends, IsStep, Place, Ready, Accessing, Stopped, Steps, concluded, place_after}
+use Rattle.rv_hart.specs.Trail.{Begins, Chain, Ends, IsStep, Place, Ready, Accessing, Stopped, Steps, concluded}
 use Rattle.rv_hart.specs.declared.action.Answer.{Answer}
 use Rattle.rv_hart.specs.declared.bus.BusFault.{BusFault}
 use Rattle.rv_hart.specs.declared.bus.Item.{Item}
@@ -15,7 +14,6 @@ use Rattle.rv_hart.specs.declared.bus.Item.TheVariants.{Fetch, Read, Write, Amo,
 use Rattle.rv_hart.specs.declared.doubleword.Doubleword.{Doubleword}
 use Rattle.rv_hart.specs.declared.stepping.Stop.{Stop}
 use Rattle.history_state.specs.After.{after}
-use Rattle.history_state.specs.Setting.{Setting}
 use Rattle.history_state.specs.State.{State, empty_state}
 use Rattle.hart_moves.specs.Due.{Due, by_resolving, due}
 use Rattle.hart_moves.specs.Harts.{HartState}
@@ -23,8 +21,6 @@ use Rattle.hart_moves.specs.Moves.{Did, MovesAs, spent}
 use Rattle.history_event.specs.declared.hart_end.HartEnd.{HartEnd}
 use Rattle.world_answers.specs.GuestsPart.GuestWorlds.Laws.{QuietTurns}
 use Rattle.world_turns.specs.Memory.{lowest}
-use Rattle.world_turns.specs.Turn.{Turn}
-use Rattle.world_turns.specs.World.{World}
 use Rattle.plain_world.specs.Stretches.{Instructs}
 
 -- ---- where it stops its hart, memory stays

@@ -1,14 +1,13 @@
 -- Turns at a stretch, as turns one after another.
-use Rattle.std.proofs.Common.{◌≡◌, ◌≢◌, ◌⊎◌, inl, inr, ⊎_elim, ℕ, zero, suc, ◌+◌, ◌<◌, ◌≤◌, Bool, true, false, not, cond, List, [], ◌∷◌, ◌++◌, map, drop, length, length-set, set-set, get_or, Option, Some, None, refl, sym, ap, subst, ◌∙◌, IsTrue, true≢false, arith}
+use Rattle.std.proofs.Common.{◌≡◌, ◌≢◌, ◌⊎◌, ⊎_elim, ℕ, zero, suc, ◌+◌, ◌<◌, ◌≤◌, Bool, true, false, not, cond, List, [], ◌∷◌, map, drop, length, length-set, set-set, get_or, Option, Some, None, refl, sym, ap, subst, ◌∙◌, IsTrue, true≢false, arith}
 use Rattle.std.specs.Prelude.{◌&&◌, nat_lt, slice_set}
 use Rattle.std.specs.List.{list_all, list_any, range_with_len, slice_get}
-use Rattle.std.specs.Option.{is_some, option_map_or}
+use Rattle.std.specs.Option.{option_map_or}
 use Rattle.std.proofs.Math.Nat.{eq-or-lt_of_le}
 use Rattle.std.proofs.lemmas.Bool.{and_parts, ltb-false, ltb-true}
 use Rattle.std.proofs.lemmas.List.{append-nil}
 use Rattle.std.proofs.lemmas.Option.{none-some, slice_get_within}
 use Rattle.ld_base.specs.declared.linking.File.{File}
-use Rattle.history_event.specs.declared.hart_end.HartEnd.{HartEnd}
 use Rattle.history_state.specs.Setting.{Setting}
 use Rattle.link_state.specs.Table.{LinkTable}
 use Rattle.rv_hart.specs.declared.doubleword.Doubleword.{Doubleword}

@@ -1,5 +1,5 @@
 -- Turns that a hart takes at a stretch: for the code of this crate alone.
-use Rattle.std.specs.Prelude.{◌≡◌, ◌≢◌, ◌<◌, ℕ, suc, false, List, Option, Some, None, IsTrue, slice_set}
+use Rattle.std.specs.Prelude.{◌≡◌, ◌≢◌, ◌<◌, ℕ, suc, false, List, Some, None, IsTrue, slice_set}
 use Rattle.std.specs.List.{slice_get}
 use Rattle.history_event.specs.declared.hart_end.HartEnd.{HartEnd}
 use Rattle.history_state.specs.Setting.{Setting}

@@ -1,9 +1,9 @@
 //! How the final destructors of a run begin, and the settling at its end.
 
-ghost use Rattle.std.specs.Prelude.{◌≡◌, ◌<◌, Bool, List, length, true};
+ghost use Rattle.std.specs.Prelude.{◌≡◌, ◌<◌, List, length, true};
 ghost use Rattle.std.specs.Bool.{OnFalse, OnTrue};
 ghost use Rattle.history_calls.specs.CallLaws.Coming.{IsOn};
-ghost use Rattle.world_answers.specs.GuestsPart.GuestWorlds.Worlds.{MayBeAt, world_of};
+ghost use Rattle.world_answers.specs.GuestsPart.GuestWorlds.Worlds.{world_of};
 ghost use Rattle.world_answers.specs.GuestsPart.Counting.{RefusesNone};
 ghost use Rattle.hart_moves.specs.Starting.{starting_registers};
 ghost use Rattle.history_journal.specs.Following.{machine_of};

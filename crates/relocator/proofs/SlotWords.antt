@@ -1,9 +1,8 @@
 -- The word at a slot's place: what the slot is bound to, or the file's word, moved.
-use Rattle.std.proofs.Common.{◌≡◌, ◌≢◌, ◌⊎◌, inl, inr, ⊎_elim, ℕ, zero, suc, ◌+◌, ◌*◌, ◌/◌, ◌%◌, ◌^◌, ◌<◌, ◌≤◌, ◌==◌, ◌||◌, ◌&&◌, not, Bool, true, false, cond, eqb, leb, ltb, List, [], ◌∷◌, ◌++◌, length, get_or, map, Option, Some, None, refl, sym, ap, subst, ◌∙◌, arith, length-append, lit<}
+use Rattle.std.proofs.Common.{◌≡◌, ◌≢◌, inl, inr, ℕ, zero, suc, ◌+◌, ◌*◌, ◌/◌, ◌%◌, ◌^◌, ◌<◌, ◌≤◌, ◌==◌, ◌&&◌, not, Bool, true, false, cond, leb, ltb, List, [], ◌∷◌, ◌++◌, length, get_or, Option, Some, None, refl, sym, ap, subst, ◌∙◌, arith, length-append, lit<}
 use Rattle.std.specs.Prelude.{if◌then◌else◌, unwrap_or}
-use Rattle.std.specs.List.{All, find, range_with_len, slice_get, zip}
-use Rattle.std.specs.Int.{w64, from_le_bytes}
-use Rattle.std.specs.Option.{option_map, option_map_or}
+use Rattle.std.specs.List.{find, slice_get, zip}
+use Rattle.std.specs.Option.{option_map}
 use Rattle.std.proofs.lemmas.Bool.{and_parts, and_right, cases_order, eq-eqb, eqb-true, leb-true, ltb-true, ne_eqb, true≢false}
 use Rattle.std.proofs.lemmas.List.{get_or-append-add, get_or-map, get_or_append_left, length-map}
 use Rattle.std.proofs.lemmas.List.Elements.{All-get_or}
@@ -17,7 +16,7 @@ use Rattle.seg_image.specs.Words.{byte_of, word_of}
 use Rattle.relocator.specs.declared.binding.Binding.{Binding}
 use Rattle.relocator.specs.declared.binding.ModulePlace.{ModulePlace}
 use Rattle.relocator.specs.Bindings.{AreCopied, is_copy, relas_of, slots_of}
-use Rattle.relocator.specs.Relocated.{copied_at, fills_word, image_byte, image_word, linkers_at, moved_word, over, packed_at, rela_at, settled_word, slot_at, slot_word, value_of, with_copies}
+use Rattle.relocator.specs.Relocated.{copied_at, fills_word, image_byte, image_word, linkers_at, moved_word, rela_at, settled_word, slot_at, slot_word, value_of, with_copies}
 use Rattle.relocator.proofs.Apart.{all_apart, names_copy, names_word, packed, relas, slot_span, slots, slots_apart}
 use Rattle.relocator.proofs.Fronts.{pairs_across}
 use Rattle.relocator.proofs.Overlays.{word_back}

@@ -1,6 +1,6 @@
 //! The relocation of an image.
 
-ghost use Rattle.std.specs.Prelude.{◌≡◌, ◌↔◌, ℕ, ◌+◌, ◌*◌, ◌%◌, ◌^◌, ◌≤◌, length, drop, OnOk, OnErr, Some, None, Err, if◌then◌else◌};
+ghost use Rattle.std.specs.Prelude.{◌≡◌, ◌↔◌, ℕ, ◌+◌, ◌*◌, ◌%◌, ◌^◌, ◌≤◌, length, OnOk, OnErr, Some, None, Err, if◌then◌else◌};
 ghost use Rattle.seg_image.specs.Accepted.{Accepted, IsPlace};
 ghost use Rattle.seg_image.specs.Images.{IsImage};
 ghost use Rattle.seg_image.specs.Pages.{IsPlaced, pages_of};

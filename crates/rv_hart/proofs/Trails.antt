@@ -10,7 +10,7 @@ use Rattle.rv_hart.specs.declared.stepping.Stop.{Stop}
 use Rattle.rv_hart.specs.declared.stepping.Stop.TheVariants.{Refused}
 use Rattle.rv_hart.specs.Registers.{Registers}
 use Rattle.rv_hart.specs.Instructions.{access_for}
-use Rattle.rv_hart.specs.Items.{left_by, items_left, StepLeaves}
+use Rattle.rv_hart.specs.Items.{left_by, items_left}
 use Rattle.rv_hart.specs.Trail.{Place, Ready, Accessing, Stopped, place_for, Fetched, Begins, Ends, Resumes, Advances, Leads, IsStep}
 use Rattle.rv_hart.specs.Laws.{OneEnd, StepLeads, LeadsJoin, SilentSteps}
 

@@ -1,6 +1,6 @@
 -- What the calls of a bus leave, for whoever keeps a trail of them. A call that its address alone refuses finds nothing in
 -- memory, so nothing is left of it: a step may leave less than its calls.
-use Rattle.std.specs.Prelude.{◌≡◌, ℕ, ◌%◌, Bool, false, not, List, [], ◌∷◌, Result, Ok, Err, flat_map, ◌==◌, ◌&&◌, if◌then◌else◌}
+use Rattle.std.specs.Prelude.{◌≡◌, ℕ, ◌%◌, Bool, false, not, List, [], ◌∷◌, Result, Err, flat_map, ◌==◌, ◌&&◌, if◌then◌else◌}
 use Rattle.ld_base.specs.declared.linking.Role.TheVariants.{None as NoRole}
 use Rattle.rv_hart.specs.declared.bus.BusFault.{BusFault}
 use Rattle.rv_hart.specs.declared.bus.BusFault.TheVariants.{Role as RoleFault, Misaligned}

@@ -1,7 +1,7 @@
 //! What the integer instructions compute.
 
 ghost use Rattle.std.specs.Prelude.{◌≡◌, ◌*◌, ◌<◌, ◌^◌};
-ghost use Rattle.std.specs.Int.{w32, w64, w128, cast_signed, cast_unsigned};
+ghost use Rattle.std.specs.Int.{w32, w64, cast_signed, cast_unsigned};
 ghost use Rattle.rv_hart.specs.Arithmetic.{low_bytes, widened, upper_half, word_result, low_word, quotient, remainder, unsigned_quotient};
 ghost use Rattle.rv_hart.specs.Arithmetic.{unsigned_remainder, reg_result, with_registers, imm_result, combined};
 ghost use Rattle.rv_hart.specs.Buses.{IsSize};

@@ -1,6 +1,6 @@
 //! A doubleword of memory: its bytes, its role and its version.
 
-ghost use Rattle.std.specs.Prelude.{◌≡◌, ◌+◌, ◌*◌, ◌%◌, ◌≤◌, ◌<◌, ◌^◌, IfOk};
+ghost use Rattle.std.specs.Prelude.{◌≡◌, ◌*◌, ◌%◌, ◌<◌, ◌^◌, IfOk};
 ghost use Rattle.rv_isa.specs.Encoding.{IsAtomicSize};
 ghost use Rattle.rv_hart.specs.Buses.{IsSize, Permits, HasValue, may_fetch, may_read, may_write};
 ghost use Rattle.rv_hart.specs.Doublewords.{lane, with_lane, refusal, stored, DoesAt};

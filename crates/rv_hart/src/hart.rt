@@ -24,7 +24,7 @@ pub struct Hart {
 
 impl Hart {
     ghost use Rattle.std.specs.Prelude.{None};
-    ghost use Rattle.rv_hart.specs.Registers.{registers_of, starting, written, result_in, passed, jumped};
+    ghost use Rattle.rv_hart.specs.Registers.{registers_of, starting, result_in, passed, jumped};
 
     /// Where a return from a hart's first function leads: the address that ends a hart.
     pub const END: u64 = 0x80_f090;

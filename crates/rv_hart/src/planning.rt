@@ -1,10 +1,10 @@
 //! What a hart does with a word.
 
-ghost use Rattle.std.specs.Prelude.{◌≡◌, ◌<◌, ◌%◌, ◌^◌, ◌*◌, ℕ, ℤ, Bool, IsTrue};
+ghost use Rattle.std.specs.Prelude.{◌≡◌, ◌<◌, ◌%◌, ◌^◌, ◌*◌};
 ghost use Rattle.rv_isa.specs.Encoding.{Decodes, HasForm, IsAtomicSize};
 ghost use Rattle.rv_hart.specs.Buses.{IsSize};
 ghost use Rattle.rv_hart.specs.Registers.{registers_of};
-ghost use Rattle.rv_hart.specs.Instructions.{offset_by, jalr_target, is_taken, load_size, store_size, jump_access, sc_access, access_of, access_for};
+ghost use Rattle.rv_hart.specs.Instructions.{offset_by, jalr_target, is_taken, load_size, store_size, jump_access, sc_access, access_of};
 ghost use Rattle.rv_hart.specs.Instructions.{IsPlanned, IsSized};
 
 use crate::arithmetic::low_bytes;

@@ -1,7 +1,6 @@
 //! The instruction of a word.
 
-ghost use Rattle.std.specs.Prelude.{◌≡◌, ◌≢◌, ◌<◌, ◌^◌, Option};
-ghost use Rattle.std.specs.Option.{option_map};
+ghost use Rattle.std.specs.Prelude.{◌≡◌, ◌<◌, Option};
 ghost use Rattle.rv_isa.specs.Word.{bits};
 ghost use Rattle.rv_isa.specs.Opcodes.{imm_code};
 ghost use Rattle.rv_isa.specs.Encoding.{Decodes};

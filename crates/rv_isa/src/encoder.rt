@@ -1,6 +1,6 @@
 //! The word of an instruction.
 
-ghost use Rattle.std.specs.Prelude.{◌≡◌, ◌+◌, ◌<◌, ◌≤◌, ◌^◌, ℕ, Bool, [], ◌∷◌};
+ghost use Rattle.std.specs.Prelude.{◌≡◌, ◌+◌, ◌<◌, ◌≤◌, ◌^◌, [], ◌∷◌};
 ghost use Rattle.std.specs.Int.{from_bool};
 ghost use Rattle.rv_isa.specs.Word.{bits, joined, part};
 ghost use Rattle.rv_isa.specs.Opcodes.{imm_code};

@@ -1,6 +1,6 @@
 //! Words with their roles, and images.
 
-ghost use Rattle.std.specs.Prelude.{◌≡◌, ◌==◌, ◌<◌, ◌^◌, length, slice_index_or};
+ghost use Rattle.std.specs.Prelude.{◌≡◌, ◌==◌, ◌<◌, length};
 ghost use Rattle.seg_image.specs.Images.{with_role, with_value};
 
 use crate::pages::{WORD_SIZE, index_of};

@@ -4,7 +4,7 @@
 //! there are buckets times symbols. Here all walks go on together: trips of 1, 2, 4 .. links are
 //! made from each symbol, and a walk takes those that make up the number of its steps.
 
-ghost use Rattle.std.specs.Prelude.{◌≡◌, ℕ, ◌+◌, ◌/◌, ◌%◌, ◌^◌, ◌<◌, ◌==◌, ◌&&◌, IfOk, Some, not, if◌then◌else◌, map, length};
+ghost use Rattle.std.specs.Prelude.{◌≡◌, ℕ, ◌/◌, ◌%◌, ◌^◌, ◌<◌, ◌==◌, IfOk, Some, if◌then◌else◌, map, length};
 ghost use Rattle.std.specs.List.{slice_get};
 ghost use Rattle.sym_hash.specs.Follow.{begun, carried, then_trip, trip};
 

@@ -1,6 +1,6 @@
 //! GNU hash tables.
 
-ghost use Rattle.std.specs.Prelude.{◌≡◌, ℕ, ◌+◌, ◌-◌, ◌*◌, ◌/◌, ◌%◌, ◌^◌, ◌<◌, ◌≤◌, ◌==◌, ◌&&◌};
+ghost use Rattle.std.specs.Prelude.{◌≡◌, ℕ, ◌+◌, ◌-◌, ◌*◌, ◌/◌, ◌%◌, ◌^◌, ◌<◌, ◌==◌, ◌&&◌};
 ghost use Rattle.std.specs.Prelude.{◌||◌, None, Some, if◌then◌else◌, not, nat_le, nat_lt, length, take, drop, map, slice_index};
 ghost use Rattle.std.specs.List.{list_all, list_any, slice_get};
 ghost use Rattle.std.specs.Option.{option_or};

@@ -13,7 +13,6 @@ use Rattle.ld_base.specs.declared.linking.Want.{Want}
 use Rattle.ld_base.specs.declared.linking.Want.TheVariants as want
 use Rattle.ld_base.specs.declared.object.Object.{Object}
 use Rattle.ld_base.specs.declared.object.Symbol.{Symbol}
-use Rattle.ld_base.specs.Pick.{pick_of}
 use Rattle.ld_base.specs.Version.{version_name}
 use Rattle.sym_hash.specs.Reached.{IsTableOf}
 use Rattle.scope_rule.specs.Choose.{choice_of, choose_for, first_with, is_own, pick_at, searched, want_of}
@@ -123,12 +122,6 @@ searched_choice s o index symbol copy name w list found other named wants listed
     ∙ ap (λ n. first_with (pick_at s n w) (searched s o copy)) named
     ∙ ap (λ (x : Want). first_with (pick_at s symbol.name x) (searched s o copy)) wants in
     rw other (ap (choice_of symbol) all)
-
--- what an object that is there has, by its own table
-pub found_there : (s : Seen) (name : List ℕ) (w : Want) (serial : ℕ) (o : Loaded) (found : Option ℕ) → HaveTables s → (serial == 0) ≡ false → object_of s serial ≡ Some o → (IsTableOf o.table o.object → found ≡ pick_of o.object name w)
-    → found ≡ pick_at s name w serial
-unfolding pick_at
-found_there s name w serial o found tables other there picks = rw (other, there) (picks (tables serial o there))
 
 -- ---- tables
 

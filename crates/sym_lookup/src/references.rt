@@ -1,6 +1,6 @@
 //! The references of one object, each symbol looked up once.
 
-ghost use Rattle.std.specs.Prelude.{◌≡◌, ◌↔◌, ◌<◌, ℕ, Bool, false, length, None, Option, slice_index_or, IfOk, IfSome, IsTrue, OnOk};
+ghost use Rattle.std.specs.Prelude.{◌≡◌, ◌↔◌, ◌<◌, ℕ, Bool, false, length, None, Option, slice_index_or, IfOk, IfSome, IsTrue};
 ghost use Rattle.ld_base.specs.declared.linking.Loaded.{Loaded as loaded};
 ghost use Rattle.ld_base.specs.declared.object.Symbol.{Symbol as Sym};
 ghost use Rattle.scope_rule.specs.Choose.{choice_of};
@@ -10,7 +10,7 @@ ghost use Rattle.sym_lookup.specs.References.{AreKept, IsAlike};
 
 use crate::looking::{owner_names, searched, stays_own};
 use crate::searching::Searching;
-use ld_base::{Choice, Loaded, Name, Object, Reloc, Serial, Symbol};
+use ld_base::{Choice, Loaded, Name, Object, Reloc, Symbol};
 use scope_lists::{ScopeParts, SearchLists, VersionNames};
 use scope_rule::{View, choice_of, has_no_symbol, is_copy};
 use std::alloc::{AllocError, Global};

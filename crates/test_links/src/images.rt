@@ -4,8 +4,8 @@
 //! proved: so they are what `make_image` and `relocate` ask for.
 
 ghost use Rattle.std.specs.Prelude.{◌≡◌, [], IfOk, OnOk};
-ghost use Rattle.relocator.specs.Example.{bytes_of_data, code, data_segment, defined, example, example_base, example_bindings, example_places};
-ghost use Rattle.relocator.specs.Example.{example_serial, lazily, own, symbol, undefined};
+ghost use Rattle.relocator.specs.Example.{bytes_of_data, defined, example, example_bindings, example_places};
+ghost use Rattle.relocator.specs.Example.{lazily, own, symbol, undefined};
 
 use ld_base::{
     Bytes, Choice, Kind, Name, ObjFlags, Object, Reloc, Segment, Serial, SharedList, SharedSymbols,

@@ -42,9 +42,6 @@ gap_here ms place numbered full within other = record {
       (cases_lt place k);
 }
 
-pub gap_at_end : (ms : List Module) → IsFull ms (length ms) → HasGapAt ms (length ms)
-gap_at_end ms full = record { within = omega arith; before = full; behind = λ k d low high. absurd (omega arith) }
-
 pub gap_is_free : (ms : List Module) (gap : ℕ) → HasGapAt ms gap → IsLeastFree ms (gap + 1)
 gap_is_free ms gap has = record {
   positive = omega arith;

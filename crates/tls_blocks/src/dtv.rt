@@ -1,6 +1,6 @@
 //! The blocks of one hart.
 
-ghost use Rattle.std.specs.Prelude.{◌≡◌, ◌==◌, ℕ, ◌+◌, ◌<◌, ◌≤◌, None, [], if◌then◌else◌, IsOk, IsSome, IfSome, OnErr, OnOk, filter, option_map, find};
+ghost use Rattle.std.specs.Prelude.{◌≡◌, ◌==◌, ◌<◌, ◌≤◌, None, [], if◌then◌else◌, IsOk, IsSome, OnErr, OnOk, filter, find};
 ghost use Rattle.tls_blocks.specs.Numbers.{module_at};
 ghost use Rattle.tls_blocks.specs.Blocks.{FitsModules, answer_of, block_at, compared, is_current, serial_at, with_entry};
 

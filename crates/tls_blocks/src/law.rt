@@ -1,6 +1,6 @@
 //! What holds of modules by their numbers.
 
-ghost use Rattle.std.specs.Prelude.{ℕ, ◌≤◌, Bool, List, filter};
+ghost use Rattle.std.specs.Prelude.{◌≤◌, Bool, List, filter};
 ghost use Rattle.history_event.specs.declared.state.Module.{Module};
 ghost use Rattle.tls_blocks.specs.Numbers.{AreNumbered, number_of, with_module};
 

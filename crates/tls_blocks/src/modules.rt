@@ -1,11 +1,10 @@
 //! The modules.
 
-ghost use Rattle.std.specs.Prelude.{◌≡◌, ◌==◌, ℕ, ◌+◌, ◌-◌, ◌^◌, ◌<◌, ◌≤◌, ◌≢◌, Option, None, Some, false};
-ghost use Rattle.std.specs.Prelude.{[], length, find, slice_index_or, if◌then◌else◌, IfOk, IfSome, IsOk, IsSome, IsSomeAnd, IsTrue, OnErr};
+ghost use Rattle.std.specs.Prelude.{◌≡◌, ◌==◌, ◌+◌, ◌-◌, ◌^◌, ◌<◌, ◌≤◌, Option, None, Some, false};
+ghost use Rattle.std.specs.Prelude.{[], find, if◌then◌else◌, IfOk, IsOk, IsSome, IsSomeAnd, IsTrue, OnErr};
 ghost use Rattle.std.specs.Prelude.{OnOk};
-ghost use Rattle.std.specs.Option.{option_copied};
-ghost use Rattle.tls_blocks.specs.Places.{IsOffset, alignment_of, end_with, tp_with};
-ghost use Rattle.tls_blocks.specs.Numbers.{AreNumbered, HasGapAt, IsLeastFree, number_of, module_at, with_module, without_module};
+ghost use Rattle.tls_blocks.specs.Places.{IsOffset, end_with, tp_with};
+ghost use Rattle.tls_blocks.specs.Numbers.{AreNumbered, HasGapAt, IsLeastFree, module_at, with_module, without_module};
 
 use crate::placing::{alignment, static_offset};
 use history_event::Module;
@@ -29,7 +28,7 @@ pub struct TlsModules {
 }
 
 impl Model for TlsModules {
-    ghost use Rattle.std.specs.Prelude.{ℕ, ◌-◌, ◌<◌, ◌^◌};
+    ghost use Rattle.std.specs.Prelude.{◌-◌, ◌<◌, ◌^◌};
     ghost use Rattle.std.specs.Vec.{vec_capacity, vec_len};
     ghost use Rattle.tls_blocks.specs.Numbers.{ModuleTable, AreNumbered};
 

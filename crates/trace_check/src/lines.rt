@@ -1,6 +1,6 @@
 //! The lines of a trace.
 
-ghost use Rattle.std.specs.Prelude.{◌≡◌, ◌==◌, ◌++◌, ◌<◌, IfNone, IfOk, IfSome, codes, length, position};
+ghost use Rattle.std.specs.Prelude.{◌≡◌, ◌==◌, ◌++◌, ◌<◌, IfNone, IfOk, IfSome, length, position};
 ghost use Rattle.trace_check.specs.Lines.{AreLines, HasNoFeed, IsLine, is_end};
 ghost use Rattle.trace_check.specs.Split.{lines_of};
 

@@ -1,29 +1,27 @@
 -- Answers of the linker's calls are read back.
-use Rattle.std.proofs.Common.{◌≡◌, ℕ, ◌^◌, Bool, true, false, List, [], ◌∷◌, ◌++◌, Option, Some, None, option_map, refl, sym}
+use Rattle.std.proofs.Common.{◌≡◌, ℕ, true, List, ◌∷◌, ◌++◌, Option, Some, None, option_map, refl, sym}
 use Rattle.std.proofs.Common.{ap, ◌∙◌, subst, inl, inr, codes, bytes_eq, All}
-use Rattle.std.proofs.lemmas.Bool.{cases_Bool, true≢false, false_from_ne_true}
+use Rattle.std.proofs.lemmas.Bool.{cases_Bool, false_from_ne_true}
 use Rattle.std.proofs.lemmas.Option.{none-some, same_Some}
 use Rattle.std.proofs.lemmas.Slice.Eq.{bytes_eq-Decides}
 use Rattle.std.specs.Fmt.{decimal}
-use Rattle.ld_base.specs.declared.fault.DlFault.{DlFault}
 use Rattle.ld_base.specs.FaultText.{fault_text, hex_text}
 use Rattle.history_event.specs.declared.event.CloseAnswer.{CloseAnswer}
 use Rattle.history_event.specs.declared.event.CloseAnswer.TheVariants as closes
 use Rattle.history_event.specs.declared.event.SymAnswer.{SymAnswer}
 use Rattle.history_event.specs.declared.event.SymAnswer.TheVariants as syms
-use Rattle.history_event.specs.declared.event_line.NewLine.{NewLine}
 use Rattle.history_event.specs.declared.event_line.OpenLine.{OpenLine}
 use Rattle.history_event.specs.declared.event_line.OpenLine.TheVariants as opens
-use Rattle.trace_text.specs.Lines.{asked_text, close_answer_text, sym_answer_text, definition_text, refused_text}
+use Rattle.trace_text.specs.Lines.{asked_text, close_answer_text, sym_answer_text, definition_text}
 use Rattle.trace_text.specs.Lists.{serials_text}
 use Rattle.trace_read.specs.Answers.{asked, done_parts, opened, answer_by, no_or_ok, open_answer, close_answer, found_parts, found, sym_answer}
 use Rattle.trace_read.specs.Faults.{fault_of}
-use Rattle.trace_read.specs.Fits.{Fits32, Fits64, Fits64IfSome, FaultFits, NewLineFits, OpenFits, CloseFits, SymFits}
+use Rattle.trace_read.specs.Fits.{Fits32, Fits64, Fits64IfSome, NewLineFits, OpenFits, CloseFits, SymFits}
 use Rattle.trace_read.specs.Lines.{new_lines_text, open_line_text}
-use Rattle.trace_read.specs.Lists.{hexadecimal, list_of}
+use Rattle.trace_read.specs.Lists.{list_of}
 use Rattle.trace_read.specs.Numbers.{numeral, digit}
-use Rattle.trace_read.specs.Pieces.{◌>>=◌, behind, labelled}
-use Rattle.trace_read.proofs.Parts.{Reads, bound, mapped, free, free-append, behind-there, behind-back, labelled_reads, pair_reads, if_true, if_false}
+use Rattle.trace_read.specs.Pieces.{behind, labelled}
+use Rattle.trace_read.proofs.Parts.{Reads, bound, mapped, free, behind-there, behind-back, labelled_reads, pair_reads, if_true, if_false}
 use Rattle.trace_read.proofs.Refusals.{fault_reads}
 use Rattle.trace_read.proofs.Worded.{decimal_reads, decimal32_reads, decimal_free, decimal32_free, hexadecimal_reads, definition_reads}
 use Rattle.trace_read.proofs.Worded.{definition_free, serials_reads, new_lines_reads, variant-back}

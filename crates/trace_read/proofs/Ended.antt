@@ -1,6 +1,6 @@
 -- Ends of harts are read back.
-use Rattle.std.proofs.Common.{◌≡◌, ℕ, ◌^◌, Bool, true, false, List, [], ◌∷◌, ◌++◌, Option, Some, None, option_map}
-use Rattle.std.proofs.Common.{if◌then◌else◌, refl, sym, ap, ◌∙◌, subst, inl, inr, codes, bytes_eq}
+use Rattle.std.proofs.Common.{◌≡◌, ℕ, Bool, true, false, List, ◌∷◌, ◌++◌, Option, Some, None, option_map}
+use Rattle.std.proofs.Common.{if◌then◌else◌, refl, sym, ap, ◌∙◌, subst, codes, bytes_eq}
 use Rattle.std.proofs.lemmas.Option.{none-some, same_Some}
 use Rattle.std.proofs.lemmas.Slice.Eq.{bytes_eq-Decides}
 use Rattle.std.specs.Fmt.{decimal}
@@ -12,7 +12,7 @@ use Rattle.trace_read.specs.declared.ends.EndWord.{EndWord}
 use Rattle.trace_read.specs.declared.ends.EndWord.TheVariants as words
 use Rattle.trace_read.specs.Ends.{end_words, end_word, bare_end, pc_and_address, pc_and_word, object_and_eights, object_and_slot, end_behind, end_by, end_of}
 use Rattle.trace_read.specs.Fits.{Fits32, Fits64, EndFits}
-use Rattle.trace_read.specs.Pieces.{◌>>=◌, cut}
+use Rattle.trace_read.specs.Pieces.{cut}
 use Rattle.trace_read.proofs.Parts.{Reads, bound, free, cut-there, cut-none, cut-back, pair_reads}
 use Rattle.trace_read.proofs.Worded.{decimal_reads, decimal32_reads, decimal_free, hexadecimal_reads, hexadecimal32_reads, hex_free, named-back, variant-back}
 

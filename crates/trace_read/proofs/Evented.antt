@@ -1,9 +1,9 @@
 -- Lines of events are read back.
-use Rattle.std.proofs.Common.{◌≡◌, ℕ, ◌<◌, ◌^◌, ◌==◌, ◌-◌, ◌+◌, Bool, true, false, List, [], ◌∷◌, ◌++◌}
-use Rattle.std.proofs.Common.{length, take, drop, Option, Some, None, option_map, flat_map, refl, sym, ap, ◌∙◌, subst, inl, inr, codes}
+use Rattle.std.proofs.Common.{◌≡◌, ℕ, ◌^◌, ◌==◌, ◌-◌, ◌+◌, true, false, List, [], ◌∷◌, ◌++◌}
+use Rattle.std.proofs.Common.{length, take, drop, Option, Some, None, flat_map, refl, sym, ap, ◌∙◌, subst, inl, inr, codes}
 use Rattle.std.proofs.Common.{bytes_eq, arith, All}
 use Rattle.std.proofs.Common.{take_at, drop_at, take-append-drop, length-append}
-use Rattle.std.proofs.lemmas.Bool.{cases_Bool, eq-eqb, eqb-true, true≢false, false_from_ne_true}
+use Rattle.std.proofs.lemmas.Bool.{cases_Bool, eq-eqb, eqb-true, false_from_ne_true}
 use Rattle.std.proofs.lemmas.Option.{none-some, same_Some, cond_some}
 use Rattle.std.proofs.lemmas.Slice.Eq.{bytes_eq-Decides}
 use Rattle.std.specs.Fmt.{decimal}
@@ -21,18 +21,18 @@ use Rattle.trace_read.specs.declared.steps.StepWord.{StepWord}
 use Rattle.trace_read.specs.declared.steps.StepWord.TheVariants as steps
 use Rattle.trace_read.specs.Answers.{asked, open_answer, close_answer, sym_answer}
 use Rattle.trace_read.specs.Events.{event_words, event_word, counted, some_fault, event_behind, event_by, event_of}
-use Rattle.trace_read.specs.Faults.{fault_of, bare_fault}
+use Rattle.trace_read.specs.Faults.{fault_of}
 use Rattle.trace_read.specs.Fits.{Fits32, Fits64, Fits64IfSome, AreBytes, AreBytesIfSome, FaultFits, FaultFitsIfSome, OpenFits, CloseFits, SymFits}
 use Rattle.trace_read.specs.Fits.{IsWritable}
 use Rattle.trace_read.specs.Lines.{open_line_text, words_of, line_of}
 use Rattle.trace_read.specs.Lists.{hexadecimal, list_of}
 use Rattle.trace_read.specs.Names.{bytes_of, name_of, some_name}
 use Rattle.trace_read.specs.Numbers.{numeral, decimal_in}
-use Rattle.trace_read.specs.Pieces.{◌>>=◌, cut, labelled, pair, until_mark, is_mark}
+use Rattle.trace_read.specs.Pieces.{cut, labelled, pair, is_mark}
 use Rattle.trace_read.specs.Read.{read_line}
 use Rattle.trace_read.specs.Steps.{hart, step_word, step_behind}
 use Rattle.trace_read.proofs.Answered.{asked_reads, asked_free, open_reads, close_reads, sym_reads}
-use Rattle.trace_read.proofs.Parts.{Reads, bound, mapped, free, free-append, cut-there, cut-none, cut-back, labelled_reads, pair_reads, if_true, if_false}
+use Rattle.trace_read.proofs.Parts.{Reads, bound, free, cut-there, cut-back, labelled_reads, pair_reads, if_true, if_false}
 use Rattle.trace_read.proofs.Refusals.{fault_reads}
 use Rattle.trace_read.proofs.Spelled.{bytes_reads, name_reads, some_name_reads, name_free, some_name_free}
 use Rattle.trace_read.proofs.Stepped.{hart_reads, hart_free, step-back, grant-there, bound-there, lost-there, unresolved-there, tls-there}

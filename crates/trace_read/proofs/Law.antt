@@ -1,13 +1,12 @@
 -- What is read of a line, in the words of events.
-use Rattle.std.proofs.Common.{◌≡◌, ℕ, List, [], ◌∷◌, ◌++◌, map, flat_map, Option, Some, None, Result, Ok, Err, IfOk, IfErr, refl}
-use Rattle.std.proofs.Common.{sym, ap, ◌∙◌, subst, codes}
+use Rattle.std.proofs.Common.{◌≡◌, ℕ, List, [], ◌∷◌, ◌++◌, map, flat_map, Some, None, Result, Ok, Err, IfOk, IfErr, refl}
+use Rattle.std.proofs.Common.{sym, ap, ◌∙◌, subst}
 use Rattle.std.proofs.lemmas.Option.{none-some, same_Some}
 use Rattle.ld_base.specs.declared.linking.Loaded.{Loaded}
 use Rattle.history_event.specs.declared.event.Event.{Event}
 use Rattle.history_event.specs.declared.event.Event.TheVariants as events
 use Rattle.history_event.specs.declared.event.OpenAnswer.{OpenAnswer}
 use Rattle.history_event.specs.declared.event.OpenAnswer.TheVariants as answers
-use Rattle.history_event.specs.declared.event.OpenAsk.{OpenAsk}
 use Rattle.history_event.specs.declared.event_line.EventLine.{EventLine}
 use Rattle.trace_text.specs.Lines.{words_text, line_text, open_text, open_answer_text}
 use Rattle.trace_text.specs.Lists.{added_text, new_text}
@@ -16,7 +15,7 @@ use Rattle.trace_read.specs.declared.fault.TraceFault.TheVariants as faults
 use Rattle.trace_read.specs.Fits.{IsWritable}
 use Rattle.trace_read.specs.Gives.{Misses, Gives}
 use Rattle.trace_read.specs.Laws.{EventsHaveLines, OneSaying}
-use Rattle.trace_read.specs.Lines.{HasLine, words_of, line_of, new_line_text, new_lines_text, open_line_text, open_words}
+use Rattle.trace_read.specs.Lines.{HasLine, words_of, new_line_text, new_lines_text, open_line_text}
 use Rattle.trace_read.specs.Read.{read_line}
 use Rattle.trace_read.specs.Said.{said_of, said_of_answer, said_of_new}
 use Rattle.trace_read.proofs.Evented.{line-there, line-back}

@@ -1,5 +1,5 @@
 -- Loops that read one thing after another.
-use Rattle.std.proofs.Common.{◌≡◌, ℕ, ◌+◌, ◌*◌, ◌==◌, Bool, true, false, cond, List, [], ◌∷◌, ◌++◌, Option, Some}
+use Rattle.std.proofs.Common.{◌≡◌, ℕ, ◌+◌, ◌*◌, ◌==◌, Bool, true, false, List, [], ◌∷◌, ◌++◌, Option, Some}
 use Rattle.std.proofs.Common.{None, option_map, if◌then◌else◌, refl, sym, ap, ◌∙◌, append_assoc, append-nil, map, take, drop, length}
 use Rattle.std.proofs.Common.{◌-◌, ◌≤◌, slice_index_or, arith}
 use Rattle.std.proofs.lemmas.List.{take_rest}
@@ -7,7 +7,7 @@ use Rattle.std.proofs.lemmas.Option.{none-some, same_Some}
 use Rattle.ld_base.specs.Text.{is_plain}
 use Rattle.trace_read.specs.Lists.{each}
 use Rattle.trace_read.specs.Names.{byte_of, bytes_of, escaped, first_byte, unescape}
-use Rattle.trace_read.specs.Names.Stage.{plain, percent, high}
+use Rattle.trace_read.specs.Names.Stage.{plain, percent}
 use Rattle.trace_read.specs.Numbers.{digit}
 use Rattle.trace_read.specs.Pieces.{◌>>=◌}
 

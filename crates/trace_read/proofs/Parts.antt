@@ -1,12 +1,11 @@
 -- Pieces of a line are read back.
-use Rattle.std.proofs.Common.{◌≡◌, ℕ, suc, ◌+◌, Bool, true, false, cond, not, ◌&&◌, ◌==◌, eqb, List, [], ◌∷◌, ◌++◌}
+use Rattle.std.proofs.Common.{◌≡◌, ℕ, suc, ◌+◌, Bool, true, false, cond, not, ◌&&◌, ◌==◌, List, [], ◌∷◌, ◌++◌}
 use Rattle.std.proofs.Common.{length, take, drop, Option, Some, None, option_map, bytes_eq, refl, sym, ap, ◌∙◌, arith, take_at, drop_at}
-use Rattle.std.proofs.Common.{append_assoc}
 use Rattle.std.proofs.Common.{take-append-drop, drop_of_length-le, append-nil, subst}
-use Rattle.std.proofs.lemmas.Bool.{and_parts, and_from, eqb-true, eqb-false, eq-eqb, not-true, cond-true, cond-false}
+use Rattle.std.proofs.lemmas.Bool.{and_parts, and_from, eqb-true, eq-eqb, not-true, cond-true, cond-false}
 use Rattle.std.proofs.lemmas.Option.{none-some, same_Some, cond_some}
 use Rattle.std.proofs.lemmas.Slice.Eq.{bytes_eq-Decides}
-use Rattle.trace_read.specs.Pieces.{◌>>=◌, is_mark, until_mark, around, cut_at, cut, behind, named, labelled, before, pair, option_by, with_option}
+use Rattle.trace_read.specs.Pieces.{◌>>=◌, is_mark, until_mark, around, cut_at, cut, behind, labelled, before, pair, option_by, with_option}
 
 -- a reader reads each text of a value that fits, and no other
 pub record Reads {A : Type 0} (read : List ℕ → Option A) (text : A → List ℕ) (Fits : A → Type 0) : Type 0 where

@@ -1,6 +1,6 @@
 -- Refusals are read back.
-use Rattle.std.proofs.Common.{◌≡◌, ℕ, ◌^◌, Bool, true, false, List, [], ◌∷◌, ◌++◌, Option, Some, None, option_map}
-use Rattle.std.proofs.Common.{if◌then◌else◌, refl, sym, ap, ◌∙◌, subst, inl, inr, codes, bytes_eq, append_assoc}
+use Rattle.std.proofs.Common.{◌≡◌, ℕ, ◌^◌, Bool, true, false, List, ◌∷◌, ◌++◌, Option, Some, None, option_map}
+use Rattle.std.proofs.Common.{if◌then◌else◌, refl, sym, ap, ◌∙◌, subst, codes, bytes_eq, append_assoc}
 use Rattle.std.proofs.lemmas.Option.{none-some, same_Some}
 use Rattle.std.proofs.lemmas.Slice.Eq.{bytes_eq-Decides}
 use Rattle.ld_base.specs.declared.fault.DlFault.{DlFault}
@@ -14,8 +14,8 @@ use Rattle.trace_read.specs.Faults.{fault_words, fault_word, bare_fault, fault_b
 use Rattle.trace_read.specs.Fits.{AreBytes, AreBytesIfSome, Fits8, Fits64, FaultFits}
 use Rattle.trace_read.specs.Names.{name_of, some_name}
 use Rattle.trace_read.specs.Numbers.{numeral, decimal_in}
-use Rattle.trace_read.specs.Pieces.{◌>>=◌, cut, pair}
-use Rattle.trace_read.proofs.Parts.{Reads, bound, mapped, free, cut-there, cut-none, cut-back, pair_reads}
+use Rattle.trace_read.specs.Pieces.{cut, pair}
+use Rattle.trace_read.proofs.Parts.{Reads, bound, free, cut-there, cut-none, cut-back, pair_reads}
 use Rattle.trace_read.proofs.Spelled.{name_reads, some_name_reads, name_free, some_name_free}
 use Rattle.trace_read.proofs.Worded.{decimal_reads, decimal8_reads, decimal8_free, hexadecimal_reads, named-back, variant-back}
 

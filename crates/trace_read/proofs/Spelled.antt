@@ -1,16 +1,16 @@
 -- Names and bytes are read back.
-use Rattle.std.proofs.Common.{◌≡◌, ◌≢◌, ℕ, zero, suc, ◌+◌, ◌-◌, ◌*◌, ◌/◌, ◌%◌, ◌<◌, ◌≤◌, Bool, true}
-use Rattle.std.proofs.Common.{false, not, ◌&&◌, ◌||◌, ◌==◌, nat_le, cond, List, [], ◌∷◌, ◌++◌, length, Option, Some, None}
-use Rattle.std.proofs.Common.{option_map, flat_map}
-use Rattle.std.proofs.Common.{refl, sym, ap, ◌∙◌, subst, arith, inl, inr, codes, bytes_eq}
-use Rattle.std.proofs.lemmas.Bool.{and_parts, and_from, eqb-true, eqb-false, eq-eqb, ne_eqb, cases_Bool, leb-true, true≢false, false_from_ne_true}
+use Rattle.std.proofs.Common.{◌≡◌, ◌≢◌, ℕ, ◌+◌, ◌-◌, ◌*◌, ◌/◌, ◌%◌, ◌<◌, true}
+use Rattle.std.proofs.Common.{false, not, ◌&&◌, ◌||◌, ◌==◌, nat_le, List, [], ◌∷◌, ◌++◌, length, Option, Some, None}
+use Rattle.std.proofs.Common.{flat_map}
+use Rattle.std.proofs.Common.{refl, sym, ap, ◌∙◌, subst, arith, inl, inr, bytes_eq}
+use Rattle.std.proofs.lemmas.Bool.{and_parts, and_from, eqb-true, ne_eqb, cases_Bool, leb-true, true≢false, false_from_ne_true}
 use Rattle.std.proofs.lemmas.List.Elements.{All-nil, All-cons, All-head, All-tail}
 use Rattle.std.proofs.lemmas.Option.{none-some, same_Some}
 use Rattle.std.proofs.lemmas.Slice.Eq.{bytes_eq-Decides}
 use Rattle.std.specs.Fmt.{digit_glyph}
 use Rattle.ld_base.specs.Text.{hex_digit, is_plain, byte_text, name_text, name_or_none}
 use Rattle.trace_text.specs.Lists.{byte_digits}
-use Rattle.trace_read.specs.Names.{Stage, byte_of, bytes_of, unescape, name_of, some_name}
+use Rattle.trace_read.specs.Names.{Stage, bytes_of, unescape, name_of, some_name}
 use Rattle.trace_read.specs.Names.Stage.{plain, percent, high}
 use Rattle.trace_read.specs.Fits.{AreBytes, AreBytesIfSome}
 use Rattle.trace_read.specs.Numbers.{digit}

@@ -1,10 +1,9 @@
 -- Events whose lines have numbers alone are read back.
-use Rattle.std.proofs.Common.{◌≡◌, ℕ, ◌<◌, ◌^◌, Bool, true, false, List, [], ◌∷◌, ◌++◌, Option, Some, None, option_map}
+use Rattle.std.proofs.Common.{◌≡◌, ℕ, true, List, [], ◌∷◌, ◌++◌, Some, None, option_map}
 use Rattle.std.proofs.Common.{refl, sym, ap, ◌∙◌, subst, inl, inr, codes, bytes_eq, arith}
-use Rattle.std.proofs.lemmas.Bool.{cases_Bool, true≢false, false_from_ne_true}
+use Rattle.std.proofs.lemmas.Bool.{cases_Bool, false_from_ne_true}
 use Rattle.std.proofs.lemmas.Option.{none-some, same_Some}
 use Rattle.std.proofs.lemmas.Slice.Eq.{bytes_eq-Decides}
-use Rattle.std.specs.Fmt.{decimal}
 use Rattle.ld_base.specs.declared.linking.Choice.{Choice}
 use Rattle.ld_base.specs.declared.linking.Choice.TheVariants as choices
 use Rattle.ld_base.specs.FaultText.{hex_text}
@@ -22,12 +21,12 @@ use Rattle.trace_read.specs.Fits.{Fits32, Fits64, EndFits, GrantedFits, RefusedF
 use Rattle.trace_read.specs.Lines.{words_of}
 use Rattle.trace_read.specs.Lists.{hexadecimal}
 use Rattle.trace_read.specs.Numbers.{definition}
-use Rattle.trace_read.specs.Pieces.{◌>>=◌, labelled, pair, cut, until_mark, is_mark}
+use Rattle.trace_read.specs.Pieces.{labelled, pair, cut, is_mark}
 use Rattle.trace_read.specs.Steps.{step_words, step_word, «grant», hart, object, slot, granted, refused, step_behind, hart_and_object}
 use Rattle.trace_read.proofs.Answered.{found_reads}
 use Rattle.trace_read.proofs.Digits.{digits_one, sixteen}
 use Rattle.trace_read.proofs.Ended.{end_reads}
-use Rattle.trace_read.proofs.Parts.{Reads, bound, mapped, free, free-append, labelled_reads, pair_reads, if_true, if_false}
+use Rattle.trace_read.proofs.Parts.{Reads, bound, free, labelled_reads, pair_reads, if_true, if_false}
 use Rattle.trace_read.proofs.Worded.{decimal_reads, decimal32_reads, decimal_free, decimal32_free, hexadecimal_reads, definition_reads, named-back}
 use Rattle.trace_read.proofs.Worded.{variant-back}
 

@@ -1,22 +1,21 @@
 -- What words with numbers and names are read back as.
-use Rattle.std.proofs.Common.{◌≡◌, ℕ, ◌+◌, ◌<◌, ◌≤◌, ◌^◌, Bool, true, false, ◌==◌, List, [], ◌∷◌, ◌++◌}
+use Rattle.std.proofs.Common.{◌≡◌, ℕ, ◌+◌, ◌<◌, ◌≤◌, ◌^◌, true, false, List, [], ◌∷◌, ◌++◌}
 use Rattle.std.proofs.Common.{Option, Some, None, option_map, refl, sym, ap, ◌∙◌, subst, arith, inl, inr, codes, bytes_eq, append_assoc, All}
-use Rattle.std.proofs.lemmas.Bool.{and_from, cases_Bool, true≢false}
+use Rattle.std.proofs.lemmas.Bool.{cases_Bool}
 use Rattle.std.proofs.lemmas.Option.{none-some, same_Some}
 use Rattle.std.proofs.lemmas.Slice.Eq.{bytes_eq-Decides}
 use Rattle.std.specs.Fmt.{decimal, digits}
 use Rattle.ld_base.specs.declared.linking.TlsPlace.{TlsPlace}
 use Rattle.ld_base.specs.FaultText.{hex_text}
-use Rattle.ld_base.specs.Text.{is_plain, name_text}
+use Rattle.ld_base.specs.Text.{name_text}
 use Rattle.history_event.specs.declared.event_line.NewLine.{NewLine}
 use Rattle.trace_text.specs.Lists.{place_text, serials_text}
 use Rattle.trace_text.specs.Lines.{definition_text}
 use Rattle.trace_read.specs.Fits.{Fits8, Fits32, Fits64, Fits64IfSome, PlaceFits, NewLineFits}
 use Rattle.trace_read.specs.Lines.{new_line_text, new_lines_text}
 use Rattle.trace_read.specs.Lists.{hexadecimal, place_of_parts, place, new_line_of_parts, new_line, list_of}
-use Rattle.trace_read.specs.Names.{name_of}
 use Rattle.trace_read.specs.Numbers.{below, numeral, digit, decimal_in, hexadecimal_in, definition}
-use Rattle.trace_read.specs.Pieces.{◌>>=◌, named, labelled, pair, with_option, cut, until_mark, is_mark}
+use Rattle.trace_read.specs.Pieces.{◌>>=◌, named, with_option, cut, is_mark}
 use Rattle.trace_read.proofs.Digits.{below-there, below-back, ten, sixteen, numeral_reads, digits_free, is_digit_byte}
 use Rattle.trace_read.proofs.Listed.{listed, list_reads}
 use Rattle.trace_read.proofs.Parts.{Reads, bound, mapped, free, free-append, labelled_reads, pair_reads, with_option_reads, if_true, if_false}

@@ -1,5 +1,5 @@
 -- What came of calls of the linker, as lines have it, read back. For the code of this crate alone.
-use Rattle.std.specs.Prelude.{ℕ, ◌^◌, if◌then◌else◌, codes, List, [], ◌∷◌, Option, Some, None, option_map}
+use Rattle.std.specs.Prelude.{ℕ, ◌^◌, if◌then◌else◌, codes, List, Option, Some, None, option_map}
 use Rattle.std.specs.Str.{bytes_eq}
 use Rattle.history_event.specs.declared.event.CloseAnswer.{CloseAnswer}
 use Rattle.history_event.specs.declared.event.CloseAnswer.TheVariants as closes
@@ -8,7 +8,7 @@ use Rattle.history_event.specs.declared.event.SymAnswer.TheVariants as syms
 use Rattle.history_event.specs.declared.event_line.NewLine.{NewLine}
 use Rattle.history_event.specs.declared.event_line.OpenLine.{OpenLine}
 use Rattle.history_event.specs.declared.event_line.OpenLine.TheVariants as opens
-use Rattle.trace_read.specs.Pieces.{◌>>=◌, behind, labelled, pair}
+use Rattle.trace_read.specs.Pieces.{behind, labelled, pair}
 use Rattle.trace_read.specs.Numbers.{numeral, decimal_in, definition}
 use Rattle.trace_read.specs.Lists.{hexadecimal, list_of, new_line}
 use Rattle.trace_read.specs.Faults.{fault_of}

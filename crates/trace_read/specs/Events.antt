@@ -2,13 +2,12 @@
 use Rattle.std.specs.Prelude.{ℕ, ◌^◌, ◌==◌, if◌then◌else◌, codes, length, List, [], ◌∷◌, Option, Some, None, option_map}
 use Rattle.std.specs.Str.{bytes_eq}
 use Rattle.ld_base.specs.declared.fault.DlFault.{DlFault}
-use Rattle.history_event.specs.declared.event.OpenAsk.{OpenAsk}
 use Rattle.history_event.specs.declared.event_line.EventLine.{EventLine}
 use Rattle.history_event.specs.declared.event_line.EventLine.TheVariants as lines
 use Rattle.trace_read.specs.declared.events.EventWord.{EventWord}
 use Rattle.trace_read.specs.declared.events.EventWord.TheVariants as words
 use Rattle.trace_read.specs.declared.steps.StepWord.{StepWord}
-use Rattle.trace_read.specs.Pieces.{◌>>=◌, cut, named, before, labelled, pair}
+use Rattle.trace_read.specs.Pieces.{◌>>=◌, cut, named, labelled, pair}
 use Rattle.trace_read.specs.Numbers.{numeral, decimal_in}
 use Rattle.trace_read.specs.Names.{bytes_of, name_of, some_name}
 use Rattle.trace_read.specs.Lists.{hexadecimal, list_of}

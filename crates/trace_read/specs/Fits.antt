@@ -1,5 +1,5 @@
 -- What can stand in a line: numbers in their widths, and bytes.
-use Rattle.std.specs.Prelude.{◌≡◌, ℕ, ◌<◌, ◌^◌, List, length, All, IfSome, Option, Some, None}
+use Rattle.std.specs.Prelude.{◌≡◌, ℕ, ◌<◌, ◌^◌, List, length, All, Option, Some, None}
 use Rattle.ld_base.specs.declared.fault.DlFault.{DlFault}
 use Rattle.ld_base.specs.declared.fault.DlFault.TheVariants as faults
 use Rattle.ld_base.specs.declared.linking.Choice.{Choice}
@@ -7,10 +7,8 @@ use Rattle.ld_base.specs.declared.linking.Choice.TheVariants as choices
 use Rattle.ld_base.specs.declared.linking.TlsPlace.{TlsPlace}
 use Rattle.history_event.specs.declared.event.CloseAnswer.{CloseAnswer}
 use Rattle.history_event.specs.declared.event.CloseAnswer.TheVariants as closes
-use Rattle.history_event.specs.declared.event.OpenAsk.{OpenAsk}
 use Rattle.history_event.specs.declared.event.SymAnswer.{SymAnswer}
 use Rattle.history_event.specs.declared.event.SymAnswer.TheVariants as syms
-use Rattle.history_event.specs.declared.event.SymAsk.{SymAsk}
 use Rattle.history_event.specs.declared.event_line.EventLine.{EventLine}
 use Rattle.history_event.specs.declared.event_line.EventLine.TheVariants as lines
 use Rattle.history_event.specs.declared.event_line.NewLine.{NewLine}

@@ -1,5 +1,5 @@
 -- The line of an event, by what the line says of it.
-use Rattle.std.specs.Prelude.{◌≡◌, ℕ, List, [], ◌∷◌, ◌++◌, flat_map, length, codes, Option, Some, None}
+use Rattle.std.specs.Prelude.{◌≡◌, ℕ, List, [], ◌∷◌, ◌++◌, flat_map, length, codes}
 use Rattle.std.specs.Fmt.{decimal}
 use Rattle.ld_base.specs.FaultText.{hex_text}
 use Rattle.ld_base.specs.Text.{name_text, name_or_none}
@@ -10,7 +10,7 @@ use Rattle.history_event.specs.declared.event_line.NewLine.{NewLine}
 use Rattle.history_event.specs.declared.event_line.OpenLine.{OpenLine}
 use Rattle.history_event.specs.declared.event_line.OpenLine.TheVariants as opens
 use Rattle.trace_text.specs.Said.{said, hart_word, object_word}
-use Rattle.trace_text.specs.Lists.{place_text, byte_digits, serials_text}
+use Rattle.trace_text.specs.Lists.{place_text, byte_digits}
 use Rattle.trace_text.specs.Ends.{end_text}
 use Rattle.trace_text.specs.Lines.{refused_text, asked_text, close_answer_text, sym_text, granted_text, unresolved_text, grant_word, slot_word}
 use Rattle.trace_text.specs.Lines.{told_text, unmapped_text}

@@ -1,5 +1,5 @@
 -- What the line of an event says of it: all of it, but neither the records of new objects nor pages.
-use Rattle.std.specs.Prelude.{◌≡◌, ℕ, List, map}
+use Rattle.std.specs.Prelude.{map}
 use Rattle.ld_base.specs.declared.linking.Loaded.{Loaded}
 use Rattle.history_event.specs.declared.event.Event.{Event}
 use Rattle.history_event.specs.declared.event.Event.TheVariants as events

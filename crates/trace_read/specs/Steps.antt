@@ -1,5 +1,5 @@
 -- Events whose lines have numbers alone, read back. For the code of this crate alone.
-use Rattle.std.specs.Prelude.{ℕ, ◌^◌, if◌then◌else◌, codes, List, [], ◌∷◌, Option, Some, None, option_map}
+use Rattle.std.specs.Prelude.{ℕ, ◌^◌, if◌then◌else◌, codes, List, [], ◌∷◌, Option, Some, option_map}
 use Rattle.std.specs.Str.{bytes_eq}
 use Rattle.ld_base.specs.declared.linking.Choice.{Choice}
 use Rattle.ld_base.specs.declared.linking.Choice.TheVariants as choices
@@ -7,7 +7,7 @@ use Rattle.history_event.specs.declared.event_line.EventLine.{EventLine}
 use Rattle.history_event.specs.declared.event_line.EventLine.TheVariants as lines
 use Rattle.trace_read.specs.declared.steps.StepWord.{StepWord}
 use Rattle.trace_read.specs.declared.steps.StepWord.TheVariants as words
-use Rattle.trace_read.specs.Pieces.{◌>>=◌, named, labelled, pair}
+use Rattle.trace_read.specs.Pieces.{named, labelled, pair}
 use Rattle.trace_read.specs.Numbers.{numeral, decimal_in, definition}
 use Rattle.trace_read.specs.Lists.{hexadecimal}
 use Rattle.trace_read.specs.Answers.{found_parts}

@@ -1,6 +1,6 @@
 //! What came of calls of the linker.
 
-ghost use Rattle.std.specs.Prelude.{◌≡◌, option_map};
+ghost use Rattle.std.specs.Prelude.{◌≡◌};
 ghost use Rattle.trace_read.specs.Gives.{Gives};
 ghost use Rattle.trace_read.specs.Answers.{asked, opened, open_answer, close_answer, found, sym_answer};
 

@@ -1,6 +1,6 @@
 //! Lists.
 
-ghost use Rattle.std.specs.Prelude.{◌≡◌, IfOk, map, option_map};
+ghost use Rattle.std.specs.Prelude.{◌≡◌, IfOk, map};
 ghost use Rattle.trace_read.specs.Gives.{Gives};
 ghost use Rattle.trace_read.specs.Lists.{each, parts_of, list_of, hexadecimal, place, new_line};
 ghost use Rattle.trace_read.specs.Numbers.{numeral};

@@ -1,7 +1,6 @@
 //! Events whose lines have numbers alone.
 
-ghost use Rattle.std.specs.Prelude.{◌≡◌, codes, option_map};
-ghost use Rattle.trace_read.specs.Pieces.{labelled};
+ghost use Rattle.std.specs.Prelude.{◌≡◌};
 ghost use Rattle.trace_read.specs.Steps.{step_word, granted, refused, grant_step, lost_step, unresolved_step, tls_step, hart_and_object, ended_step};
 ghost use Rattle.trace_read.specs.Steps.{step_behind};
 

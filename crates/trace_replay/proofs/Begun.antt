@@ -1,5 +1,5 @@
 -- The objects of an opening that are left to be initialised.
-use Rattle.std.proofs.Common.{◌≡◌, ⊎_elim, ℕ, true, false, not, List, [], ◌∷◌, ◌++◌, map, Option, Some, None, refl, sym, ap, subst, ◌∙◌}
+use Rattle.std.proofs.Common.{◌≡◌, ⊎_elim, ℕ, not, List, [], ◌∷◌, ◌++◌, map, Option, Some, None, refl, sym, ap, subst, ◌∙◌}
 use Rattle.std.specs.Prelude.{◌==◌}
 use Rattle.std.specs.List.{Contains, filter, flat_map}
 use Rattle.std.specs.Option.{option_map_or}

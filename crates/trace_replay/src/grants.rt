@@ -8,7 +8,7 @@ ghost use Rattle.history_event.specs.declared.state.Granting.{Granting as granti
 ghost use Rattle.history_event.specs.declared.state.Standing.TheVariants.{Open};
 ghost use Rattle.history_state.specs.Grants.{is_bound_standing, is_open, is_open_standing};
 ghost use Rattle.history_state.specs.Step.{settled_as};
-ghost use Rattle.trace_replay.specs.Granted.{HasNoBound, IsBoundTo, is_another, is_numbered};
+ghost use Rattle.trace_replay.specs.Granted.{HasNoBound, IsBoundTo, is_numbered};
 ghost use Rattle.trace_replay.specs.Indexed.{place_of, same_slot};
 
 use history_event::{Granting, Standing};

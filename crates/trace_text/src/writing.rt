@@ -1,6 +1,6 @@
 //! Events, as they are written.
 
-ghost use Rattle.std.specs.Prelude.{◌≡◌, ◌++◌, ◌∷◌, [], IfOk, OnOk, Some};
+ghost use Rattle.std.specs.Prelude.{◌≡◌, ◌++◌, IfOk, OnOk, Some};
 ghost use Rattle.std.specs.String.{string_bytes};
 ghost use Rattle.ld_base.specs.Text.{name_or_none};
 ghost use Rattle.trace_text.specs.Lines.{IsSayable, asked_text, close_answer_text, granted_text, line_text, open_answer_text, open_text};

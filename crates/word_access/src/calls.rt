@@ -1,6 +1,6 @@
 //! The calls of a bus, by a hart's hand between two accesses.
 
-ghost use Rattle.std.specs.Prelude.{◌≡◌, ◌<◌, ◌*◌, ◌^◌, IfOk};
+ghost use Rattle.std.specs.Prelude.{◌<◌, ◌*◌, ◌^◌, IfOk};
 ghost use Rattle.rv_isa.specs.Encoding.{IsAtomicSize};
 ghost use Rattle.rv_hart.specs.Buses.{HasValue, IsSize, Permits, may_fetch, may_read, may_write};
 ghost use Rattle.word_access.specs.Accesses.{Calls};

@@ -1,16 +1,15 @@
 -- Shared words are guest memory as it should be.
-use Rattle.std.proofs.Common.{◌≡◌, ◌≢◌, ◌⊎◌, ⊎_elim, inl, inr, ℕ, ◌+◌, ◌-◌, ◌*◌, ◌/◌, ◌%◌, ◌≤◌, ◌<◌, List, Option, Some, None, Contains, refl, sym, ap, subst, ◌∙◌, arith}
+use Rattle.std.proofs.Common.{◌≡◌, ◌⊎◌, ⊎_elim, inl, inr, ℕ, ◌<◌, List, Some, None, Contains, refl, sym, ap, subst, ◌∙◌, arith}
 use Rattle.ld_base.specs.declared.linking.Role.{Role}
 use Rattle.ld_base.specs.declared.linking.Role.TheVariants.{Ro, Rx, Slot}
 use Rattle.history_event.specs.declared.state.Granting.{Granting}
 use Rattle.history_event.specs.declared.state.Standing.TheVariants.{Bound, Open}
-use Rattle.word_rule.specs.declared.entry.Exchange.{Exchange}
 use Rattle.word_rule.specs.declared.entry.Grant.{Grant}
 use Rattle.word_rule.specs.declared.view.Fate.TheVariants.{Won}
 use Rattle.word_rule.specs.declared.view.HartView.{HartView}
 use Rattle.word_rule.specs.declared.view.KeeperView.{KeeperView}
-use Rattle.word_rule.specs.Allowed.{IsOf, IsSlot, Stands}
-use Rattle.word_rule.specs.Layout.{address_of, control_at, doublewords, first_address, harts_at_most, place_of, value_at}
+use Rattle.word_rule.specs.Allowed.{IsOf, Stands}
+use Rattle.word_rule.specs.Layout.{address_of, control_at, doublewords, harts_at_most, place_of, value_at}
 use Rattle.word_rule.specs.Rule.{Parts}
 use Rattle.word_rule.specs.Slots.{HasWon, SlotIs, Winner}
 use Rattle.word_rule.specs.Views.{exchanges_of, kept_at, row_of}
@@ -20,7 +19,7 @@ use Rattle.word_rule.specs.Lemmas.Unlocking.{role_is}
 use Rattle.history_state.specs.Memory.{role_at, first_word_at}
 use Rattle.history_state.specs.Slots.{IsOpenGrant}
 use Rattle.history_state.specs.State.{State}
-use Rattle.history_memory.specs.Holds.{Holds, HoldsAt, IsSlotAt, SlotHolds, Took, TookAt, exchanged, first, lazy_at}
+use Rattle.history_memory.specs.Holds.{Holds, IsSlotAt, SlotHolds, Took, TookAt, exchanged, first}
 use Rattle.history_memory.specs.Memory.{IsDoubleword}
 use Rattle.word_holds.specs.Shared.{HaveWon, IsGrantOf, IsOfState, memory_of}
 

@@ -120,9 +120,6 @@ may_set_slot k images slot word may has role = record {
 abbrev pub OfFirst : ℕ → ℕ → List Word → ℕ → ℕ → Word → Type 0
 OfFirst n start words a lazy x = (j : ℕ) × (j < n) × (slice_get words j ≡ Some x) × (a ≡ start + 8 * j) × (lazy ≡ 0) × (is_plain x.role ≡ true)
 
-pub no_first : (start : ℕ) (words : List Word) (k : KeeperView) → Puts (OfFirst 0 start words) k k
-no_first start words k = puts_none (OfFirst 0 start words) k (λ a lazy x is. (let no : is.0 < 0 = is.1 in omega (arith, no)))
-
 pub first_more : (n start : ℕ) (words : List Word) (word : Word) (k l m : KeeperView) → ((j : ℕ) → j < length words → IsDoubleword (start + 8 * j)) → slice_get words n ≡ Some word
     → Puts (OfFirst n start words) k l → Puts (OfWord (start + 8 * n) word) l m → Puts (OfFirst (n + 1) start words) k m
 first_more n start words word k l m placed at one two =
@@ -166,9 +163,6 @@ all_words n start words k l past puts =
 -- those of the first of them
 abbrev pub OfFirstImages : ℕ → List Image → ℕ → ℕ → Word → Type 0
 OfFirstImages n images a lazy x = (i : ℕ) × (j : ℕ) × (i < n) × IsWordAt images i j a x × (lazy ≡ 0) × (is_plain x.role ≡ true)
-
-pub no_images : (images : List Image) (k : KeeperView) → Puts (OfFirstImages 0 images) k k
-no_images images k = puts_none (OfFirstImages 0 images) k (λ a lazy x is. (let no : is.0 < 0 = is.2 in omega (arith, no)))
 
 -- a word of an image
 word_of : (images : List Image) (n : ℕ) (image : Image) → slice_get images n ≡ Some image → (j : ℕ) (x : Word) → slice_get image.words j ≡ Some x → IsWordAt images n j (image.start + 8 * j) x
@@ -249,9 +243,6 @@ all_images n images k l past puts =
 
 abbrev pub OfFirstSlots : ℕ → List Image → List SlotWord → ℕ → ℕ → Word → Type 0
 OfFirstSlots n images slots a lazy x = (i : ℕ) × (slot : SlotWord) × (i < n) × (slice_get slots i ≡ Some slot) × OfSlot images slot a lazy x
-
-pub no_slots : (images : List Image) (slots : List SlotWord) (k : KeeperView) → Puts (OfFirstSlots 0 images slots) k k
-no_slots images slots k = puts_none (OfFirstSlots 0 images slots) k (λ a lazy x is. (let no : is.0 < 0 = is.2 in omega (arith, no)))
 
 -- a slot whose word no image has
 pub no_slot : (images : List Image) (slot : SlotWord) (k : KeeperView) → ((x : Word) → HasWord images slot.address x → x.role ≢ Slot) → Puts (OfSlot images slot) k k

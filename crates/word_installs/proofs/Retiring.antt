@@ -1,5 +1,5 @@
 -- Words that are taken away: one more leaves what may be, and what is gone.
-use Rattle.std.proofs.Common.{◌≡◌, ◌≢◌, ◌⊎◌, ⊎_elim, append-nil, append_assoc, inl, inr, ℕ, ◌+◌, ◌-◌, ◌*◌, ◌/◌, ◌%◌, ◌^◌, ◌<◌, ◌≤◌, Result, Ok, Err, IfOk, IfErr, Bool, true, false, leb, ltb, get_or, List, [], ◌∷◌, ◌++◌, length, Some, refl, sym, ap, subst, ◌∙◌, arith, lt_of_not-le}
+use Rattle.std.proofs.Common.{◌≡◌, ◌≢◌, ◌⊎◌, ⊎_elim, append-nil, append_assoc, inl, inr, ℕ, ◌+◌, ◌-◌, ◌*◌, ◌/◌, ◌%◌, ◌<◌, ◌≤◌, Result, Ok, Err, IfOk, IfErr, Bool, true, false, leb, ltb, get_or, List, [], ◌∷◌, ◌++◌, length, Some, refl, sym, ap, subst, ◌∙◌, arith, lt_of_not-le}
 use mathlib.Core.Logic.{dite}
 use native.Mathlib.Decide.{ℕ_discrete, dec_le}
 use Rattle.std.specs.List.{Contains, slice_get}
@@ -259,19 +259,6 @@ nth_covered ranges k r i may there low =
       covers_it = and_from (leb r.address (r.address + 8 * i)) (ltb (r.address + 8 * i) (r.address + 4096 * r.pages))
           (le-leb r.address (r.address + 8 * i) (omega arith)) (lt-ltb (r.address + 8 * i) (r.address + 4096 * r.pages) (omega (arith, low)));
     }
-
-pub nth_fits : (ranges : List Range) (k : KeeperView) (r : Range) (i : ℕ) → MayUnmap k ranges → Contains ranges r → i < 512 * r.pages → r.address + 8 * i < 2 ^ 64
-nth_fits ranges k r i may there low =
-    let high = (nth_covered ranges k r i may there low).word.high in omega (arith, high)
-
-pub few_pages : (ranges : List Range) (k : KeeperView) (r : Range) → MayUnmap k ranges → Contains ranges r → 512 * r.pages < 2 ^ 64
-few_pages ranges k r may there = go (dec_le r.pages 0)
-  where
-    go : Dec (r.pages ≤ 0) → 512 * r.pages < 2 ^ 64
-    go (yes none) = omega (arith, none)
-    go (no some) =
-        let guest : IsGuestRange r.address r.pages = may.guest r there (lt_of_not-le some) in
-        let to : r.address + 4096 * r.pages ≤ 0x10000 + 4096 * 2047 = guest.high in omega (arith, to)
 
 -- the index of a doubleword
 nth_of : (ranges : List Range) (k : KeeperView) (r : Range) (a : ℕ) → MayUnmap k ranges → Contains ranges r → IsCovered (r ∷ []) a

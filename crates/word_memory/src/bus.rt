@@ -1,8 +1,6 @@
 //! The memory as a hart's bus.
 
-ghost use Rattle.std.specs.Prelude.{◌≡◌, ◌<◌, ◌*◌, ◌^◌, IfOk};
-ghost use Rattle.rv_isa.specs.Encoding.{IsAtomicSize};
-ghost use Rattle.rv_hart.specs.Buses.{HasValue, IsSize, Permits, may_fetch, may_read, may_write};
+ghost use Rattle.std.specs.Prelude.{◌≡◌, ◌<◌};
 
 use crate::HartSeat;
 use rv_hart::{Bus, BusFault};
@@ -30,7 +28,6 @@ impl<'a, J: Naming> TableBus<'a, J> {
 
 impl<'a, J: Naming> Bus for TableBus<'a, J> {
     ghost use Rattle.std.specs.Prelude.{◌≡◌};
-    ghost use Rattle.rv_hart.specs.declared.bus.Item.{Item};
     ghost use Rattle.word_access.specs.Accesses.{Calls};
 
     ghost does = { λ before item after. (after.seat.ghost_name ≡ before.seat.ghost_name) × Calls before.seat.now item after.seat.now };

@@ -12,7 +12,7 @@ use Rattle.word_rule.specs.declared.view.KeeperView.{KeeperView}
 use Rattle.word_rule.specs.declared.view.View.{View}
 use Rattle.word_rule.specs.declared.view.View.TheVariants.{Keeper, Hart, Note}
 use Rattle.word_rule.specs.Layout.{control_at, doublewords, harts_at_most, lock_bit, place_of, state_at, value_at}
-use Rattle.word_rule.specs.Views.{entry_of, exchanges_of, kept_at, row_of}
+use Rattle.word_rule.specs.Views.{exchanges_of, kept_at, row_of}
 use Rattle.word_rule.specs.Allowed.{IsAllowed, IsOf, IsSlot}
 use Rattle.word_rule.specs.Words.{Holds, keeper, hart, nobody, Owner}
 use Rattle.word_rule.specs.HartSteps.{Awaits, IsMark}
@@ -21,7 +21,6 @@ use Rattle.word_rule.specs.Slots.{Did, Fated, HasLost, IsPending, Winner}
 use Rattle.word_rule.specs.Seats.{Fits}
 use Rattle.word_rule.specs.Rule.{IsGuest, Parts}
 use Rattle.word_rule.specs.Clauses.{Clauses, EntryClauses, HasValueOfAnother, Made, RowClauses, SlotClauses, slot_of}
-use Rattle.word_rule.specs.Lemmas.Locks.{is_free}
 use Rattle.word_rule.specs.Lemmas.Rows.{not_both, not_rest}
 use Rattle.word_rule.specs.Lemmas.Seating.{no_keeper}
 use Rattle.word_rule.specs.Lemmas.SlotFrames.{at_place, in_reach}

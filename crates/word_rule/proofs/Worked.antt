@@ -1,5 +1,5 @@
 -- The worked steps, by computation.
-use Rattle.std.proofs.Common.{◌≡◌, ℕ, ◌≤◌, ◌<◌, arith, true, false, List, [], ◌∷◌, ◌++◌, length, refl, ap, ◌∙◌, inr}
+use Rattle.std.proofs.Common.{◌≡◌, ℕ, ◌≤◌, ◌<◌, arith, true, false, [], ◌∷◌, ◌++◌, length, refl, ap, ◌∙◌, inr}
 use Rattle.ld_base.specs.declared.linking.Role.{Role}
 use Rattle.ld_base.specs.declared.linking.Role.TheVariants.{Slot as SlotRole}
 use Rattle.word_rule.specs.declared.kind.StoreAsk.TheVariants.{Conditional}

@@ -2,7 +2,7 @@
 -- and a row that goes between the keeper and its hart.
 use Rattle.std.specs.Prelude.{◌≡◌, [], ◌∷◌, length, None, Some, Ok, Err, true, false}
 use Rattle.ld_base.specs.declared.fault.Shown.TheVariants.{Locked}
-use Rattle.ld_base.specs.declared.linking.Role.TheVariants.{None as NoRole, Rx, Slot as SlotRole}
+use Rattle.ld_base.specs.declared.linking.Role.TheVariants.{Rx, Slot as SlotRole}
 use Rattle.rv_hart.specs.declared.bus.BusFault.TheVariants.{Again}
 use Rattle.rv_hart.specs.declared.bus.Item.TheVariants as items
 use Rattle.word_rule.specs.declared.entry.Entry.{Entry}

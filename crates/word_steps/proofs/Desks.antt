@@ -1,15 +1,14 @@
 -- The view of the keeper's seat over one step.
-use Rattle.std.proofs.Common.{◌≡◌, ℕ, ◌<◌, [], refl, sym, ap, subst, ◌∙◌}
+use Rattle.std.proofs.Common.{◌≡◌, ℕ, ◌<◌, [], sym, ap, subst, ◌∙◌}
 use Rattle.atomic_table.specs.Table.{Me}
 use Rattle.word_rule.specs.declared.kind.KeeperKind.{KeeperKind}
 use Rattle.word_rule.specs.declared.kind.Kind.TheVariants.{Keeper as OfKeeper}
-use Rattle.word_rule.specs.declared.view.KeeperView.{KeeperView}
-use Rattle.word_rule.specs.declared.view.Slip.TheVariants.{OfHart, OfKeeper}
+use Rattle.word_rule.specs.declared.view.Slip.TheVariants.{OfKeeper}
 use Rattle.word_rule.specs.declared.view.View.{View}
-use Rattle.word_rule.specs.declared.view.View.TheVariants.{Keeper, Hart, Note, Spent}
-use Rattle.word_rule.specs.KeeperSteps.{KeeperLearns, KeeperReady, keeper_after}
-use Rattle.word_rule.specs.Table.{Learns, Ready, after_step}
-use Rattle.word_rule.specs.Joining.{HasNote, HasRoom, MayTake, takes_in}
+use Rattle.word_rule.specs.declared.view.View.TheVariants.{Keeper}
+use Rattle.word_rule.specs.KeeperSteps.{KeeperReady, keeper_after}
+use Rattle.word_rule.specs.Table.{Ready, after_step}
+use Rattle.word_rule.specs.Joining.{HasNote, HasRoom, MayTake}
 use Rattle.word_rule.specs.Layout.{harts_at_most}
 use Rattle.word_rule.specs.Views.{IsLong}
 use Rattle.word_rule.specs.Lemmas.Seating.{stays_long}
@@ -37,9 +36,6 @@ desk_after kind me me' n is now = ap (λ (p : Me Unit View). keeper_of p.0) (des
 pub desk_long : (kind : KeeperKind) (me me' : Me Unit View) (n : ℕ) → IsKeeper me → IsLong (keeper_of me.0) → KeeperReady kind (keeper_of me.0) → me' ≡ (after_step (OfKeeper kind) me.0 n, []) → IsLong (keeper_of me'.0)
 desk_long kind me me' n is long ready now = subst IsLong (sym (desk_after kind me me' n is now)) (stays_long kind (keeper_of me.0) n ready long)
 
-pub desk_learns : (kind : KeeperKind) (me : Me Unit View) (n : ℕ) → IsKeeper me → Learns (OfKeeper kind) me.0 n → KeeperLearns kind (keeper_of me.0) n
-desk_learns kind me n is learns = subst (λ v. Learns (OfKeeper kind) v n) (desk_is me is) learns
-
 -- ---- seats that are made or joined
 
 pub desk_room : (me : Me Unit View) → IsKeeper me → (keeper_of me.0).harts < harts_at_most → (me.1 ≡ []) × HasRoom me.0
@@ -47,30 +43,6 @@ desk_room me is room = (ap (λ (p : Me Unit View). p.1) is, subst HasRoom (sym (
 
 pub desk_noted : (me : Me Unit View) → IsKeeper me → (me.1 ≡ []) × HasNote me.0
 desk_noted me is = (ap (λ (p : Me Unit View). p.1) is, subst HasNote (sym (desk_is me is)) tt)
-
-takes_still : (k : KeeperView) (w : View) → takes_in (Keeper k) w ≡ Keeper (keeper_of (takes_in (Keeper k) w))
-takes_still k (Keeper x) = refl
-takes_still k (Hart h) = refl
-takes_still k (Note es (OfHart m entries readings)) = refl
-takes_still k (Note es (OfKeeper rows)) = refl
-takes_still k Spent = refl
-
-takes_long : (k : KeeperView) (w : View) → IsLong k → IsLong (keeper_of (takes_in (Keeper k) w))
-takes_long k (Keeper x) long = long
-takes_long k (Hart h) long = long
-takes_long k (Note es (OfHart m entries readings)) long = long
-takes_long k (Note es (OfKeeper rows)) long = long
-takes_long k Spent long = long
-
--- the keeper's seat took another in
-pub desk_takes : (me me' : Me Unit View) (w : View) → IsKeeper me → IsLong (keeper_of me.0) → me' ≡ (takes_in me.0 w, [])
-    → IsKeeper me' × IsLong (keeper_of me'.0) × (keeper_of me'.0 ≡ keeper_of (takes_in (Keeper (keeper_of me.0)) w))
-desk_takes me me' w is long now =
-    let k : KeeperView = keeper_of me.0 in
-    let e : me' ≡ (takes_in (Keeper k) w, []) = now ∙ ap (λ (v : View). (takes_in v w, [])) (desk_is me is) in
-    let f : me' ≡ (Keeper (keeper_of (takes_in (Keeper k) w)), []) = e ∙ ap (λ (v : View). (v, [])) (takes_still k w) in
-    let g : keeper_of me'.0 ≡ keeper_of (takes_in (Keeper k) w) = ap (λ (p : Me Unit View). keeper_of p.0) e in
-    (f ∙ ap (λ (k : KeeperView). (Keeper k, [])) (sym g), subst IsLong (sym g) (takes_long k w long), g)
 
 pub desk_may : (me : Me Unit View) (w : View) → IsKeeper me → MayTake (Keeper (keeper_of me.0)) w → MayTake me.0 w
 desk_may me w is may = subst (λ v. MayTake v w) (sym (desk_is me is)) may

@@ -1,6 +1,6 @@
 //! The keeper's seat in the middle of a call: its steps, one by one.
 
-ghost use Rattle.std.specs.Prelude.{◌≡◌, ◌<◌, ◌+◌, ◌++◌, [], ◌∷◌, length};
+ghost use Rattle.std.specs.Prelude.{◌≡◌, ◌<◌, ◌+◌, [], length};
 ghost use Rattle.word_rule.specs.Layout.{table_words};
 ghost use Rattle.word_rule.specs.Operations.{load, store, exchange, add};
 ghost use Rattle.word_rule.specs.KeeperSteps.{KeeperLearns, KeeperReady, heeding, keeper_after, keeper_op, keeper_word};

@@ -1,4 +1,4 @@
-//! Parts of a turn on one thread that settles: a crate without code.
+//! Parts of a turn on one thread that settles.
 //!
 //! A service settles first: each grant whose hart is done with it, hart by hart. [`settling_may_come`]
 //! says that in a sound world each of these events may come after those before it. The hart whose turn

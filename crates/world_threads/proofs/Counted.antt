@@ -1,5 +1,5 @@
 -- What a library counts of a start that fails.
-use Rattle.std.proofs.Common.{◌≡◌, [], Err, Some, refl}
+use Rattle.std.proofs.Common.{[], Err, refl}
 use Rattle.history_state.specs.Setting.{Setting}
 use Rattle.history_calls.specs.declared.link_served.startup.Setup.{Setup}
 use Rattle.history_calls.specs.declared.link_served.startup.StartFault.{StartFault}

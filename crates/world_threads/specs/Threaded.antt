@@ -77,7 +77,7 @@ pub record IsThreaded (w : Setting) (setup : Setup) (left : RunRecord) (trails :
   -- what became of each grant is known, and what was seen of a slot is the value of the one that was bound
   pub over : IsOver trails
   -- behind startup they came round after round, each one turn of one hart at the linker: grants are settled first, in the order of their harts, and whose
-  -- grant is left open was asked for in that very round; and once every hart had ended, grants were settled a last time
+  -- grant is left open was asked for in that very round; behind the rounds the last grants are settled, so that none is open
   pub rounds : AreAllRounds w by.startup left.journal.events trails.opens
   -- each hart has an end, which is the last one that the journal has of it
   pub last : AreLastEnds w.machine.harts (after left.journal.events).endings left.ends

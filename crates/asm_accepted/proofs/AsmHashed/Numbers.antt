@@ -1,30 +1,20 @@
 -- The numbers of hash tables.
-use Rattle.std.proofs.Common.{◌≡◌, ap, refl, ℕ, zero, suc, ◌+◌, ◌-◌, ◌*◌, ◌/◌, ◌%◌, ◌^◌, ◌<◌, ◌≤◌, Bool, true, false, List, [], ◌∷◌, ◌++◌, length, map, fold, replicate, bit_or, bit_and, arith, length-append}
-use Rattle.std.specs.Prelude.{bit_xor}
+use Rattle.std.proofs.Common.{◌≡◌, ap, refl, ℕ, zero, suc, ◌+◌, ◌-◌, ◌/◌, ◌%◌, ◌^◌, ◌<◌, ◌≤◌, Bool, true, false, List, [], ◌∷◌, ◌++◌, length, map, fold, replicate, bit_or, arith, length-append}
 use Rattle.std.specs.Int.{from_bool}
 use Rattle.std.specs.List.{range_with_len}
-use Rattle.std.proofs.lemmas.Nat.{and_le_r, or_lt, pow_below}
+use Rattle.std.proofs.lemmas.Nat.{or_lt, pow_below}
 use Rattle.std.proofs.lemmas.List.{length-replicate}
 use Rattle.std.proofs.lemmas.List.FromFn.{length-map-range_with_len}
-use Rattle.sym_hash.specs.Hash.{gnu_hash, gnu_step, sysv_fold, sysv_hash, sysv_step}
+use Rattle.sym_hash.specs.Hash.{gnu_hash, gnu_step}
 use Rattle.asm_write.specs.HashBuild.Hashed.{bloom_with, bucket_count, bucket_of, buckets_of, chain_of, ends_bucket, gnu_of, links_of, sysv_of, word}
 use Rattle.asm_laws.specs.ElfSpelled.Said.{AllBelow}
 use Rattle.asm_accepted.specs.ElfHashed.Hashes.{EndsWithGreatest, GnuFits, SysvFits}
 
 -- hashes have 32 bits
 
-low_fold : (h : ℕ) → sysv_fold h < 2 ^ 32
-low_fold h =
-    let most = and_le_r (bit_xor h (bit_and h 0xf000_0000 / 2 ^ 24)) (0xffff_ffff - bit_and h 0xf000_0000) in
-    omega (arith, most)
-
 folded : (step : ℕ → ℕ → ℕ) → ((h c : ℕ) → step h c < 2 ^ 32) → (h : ℕ) (name : List ℕ) → h < 2 ^ 32 → fold step h name < 2 ^ 32
 folded step each h [] low = low
 folded step each h (c ∷ name) low = folded step each (step h c) name (each h c)
-
-pub low_sysv : (name : List ℕ) → sysv_hash name < 2 ^ 32
-unfolding sysv_hash
-low_sysv name = folded sysv_step (λ h c. low_fold ((16 * h + c) % 2 ^ 32)) 0 name (omega arith)
 
 pub low_gnu : (name : List ℕ) → gnu_hash name < 2 ^ 32
 unfolding gnu_hash

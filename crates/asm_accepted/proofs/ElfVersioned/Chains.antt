@@ -1,8 +1,7 @@
 -- Records that are linked stand one behind the other.
-use Rattle.std.proofs.Common.{◌≡◌, ◌∙◌, ap, subst, ℕ, zero, suc, ◌+◌, ◌*◌, ◌<◌, ◌==◌, Bool, false, List, [], ◌∷◌, arith}
+use Rattle.std.proofs.Common.{◌≡◌, ◌∙◌, ap, subst, ℕ, zero, suc, ◌+◌, ◌*◌, ◌<◌, ◌==◌, Bool, List, [], ◌∷◌, arith}
 use Rattle.std.specs.Prelude.{Some}
 use Rattle.std.specs.List.{slice_get}
-use Rattle.std.proofs.lemmas.Bool.{ne_eqb}
 use Rattle.asm_write.specs.declared.field.Field.{Field}
 use Rattle.asm_laws.specs.ElfRecords.Numbers.{AllFit}
 use Rattle.elf_versions.specs.Linked.{place}
@@ -29,7 +28,3 @@ pub fits_at : {X : Type 0} (fields : X → List Field) (records : List X) → Ea
 fits_at fields [] fit i one is = absurd cc
 fits_at fields (x ∷ records) (first, fit) zero one is = let same : x ≡ one = cc in subst (λ y. AllFit (fields y)) same first
 fits_at fields (x ∷ records) (first, fit) (suc i) one is = fits_at fields records fit i one is
-
--- a record before the last
-pub not_last : (i count : ℕ) → i + 1 < count → (i + 1 == count) ≡ false
-not_last i count before = ne_eqb (i + 1) count (λ is. absurd (omega (arith, before, is)))

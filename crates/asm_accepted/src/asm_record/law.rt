@@ -1,8 +1,7 @@
 //! The laws.
 
-ghost use Rattle.std.specs.Prelude.{◌≡◌, pos, ℕ, List, [], ◌∷◌, length, map, Some, None, codes};
+ghost use Rattle.std.specs.Prelude.{◌≡◌, pos, ℕ, List, [], ◌∷◌, Some, None, codes};
 ghost use Rattle.ld_base.specs.declared.object.Kind.TheVariants.{Dyn};
-ghost use Rattle.ld_base.specs.declared.object.Symbol.{Symbol};
 ghost use Rattle.ld_base.specs.declared.parts.Head.{Head};
 ghost use Rattle.elf_head.specs.Verdict.{SpellsHead};
 ghost use Rattle.asm_layout.specs.Examples.{library, program};

@@ -1,6 +1,6 @@
 //! The places that the linker fills, table by table and section by section.
 
-ghost use Rattle.std.specs.Prelude.{◌≡◌, ◌+◌, ◌*◌, ◌≤◌, ◌<◌, ◌++◌, ◌^◌, [], ℕ, List, IfOk, OnOk, length, map, option_map, option_to_list};
+ghost use Rattle.std.specs.Prelude.{◌≡◌, ◌+◌, ◌*◌, ◌≤◌, ◌<◌, ◌++◌, ◌^◌, ℕ, List, IfOk, OnOk, length, option_map, option_to_list};
 ghost use Rattle.std.specs.List.{cons_option};
 ghost use Rattle.asm_statement.specs.declared.line.Line.{Line};
 ghost use Rattle.asm_layout.specs.Fixes.{array_fixes, fixes_of, got_fix, got_fixes, line_fixes, section_fixes};

@@ -139,10 +139,6 @@ entry_fits : (starts : Starts) (entry : Option Spot) → entry_of starts entry <
 entry_fits starts None = omega arith
 entry_fits starts (Some spot) = low (start_in starts spot.part + spot.offset)
 
-one_if : (b : Bool) (segment : SegmentKind) → length (segment_if b segment) ≤ 1
-one_if true segment = omega arith
-one_if false segment = omega arith
-
 few_segments : (contents : Contents) → length (segments_of contents) < 2 ^ 16
 unfolding segments_of
 few_segments contents = few (has_run contents) (has_written contents) (has_tls contents)

@@ -159,11 +159,6 @@ range starts contents ends =
 
 -- The entries
 
-each_tells : (starts : Starts) (entries : List DynamicEntry) → AllTell starts entries → (i : ℕ) (e : DynamicEntry) → slice_get entries i ≡ Some e → Tells starts e
-each_tells starts [] all i e is = absurd cc
-each_tells starts (x ∷ entries) (first, all) zero e is = let same : x ≡ e = cc in subst (Tells starts) same first
-each_tells starts (x ∷ entries) (first, all) (suc i) e is = each_tells starts entries all i e is
-
 none_ends : (starts : Starts) (entries : List DynamicEntry) → AllTell starts entries → AllPass (λ t. not (has_tag dt_null t)) (map (said_tag starts) entries)
 none_ends starts [] all k d inside = absurd (omega (arith, inside))
 none_ends starts (e ∷ entries) (first, all) zero d inside =

@@ -1,6 +1,6 @@
 //! The laws.
 
-ghost use Rattle.std.specs.Prelude.{◌≡◌, ◌+◌, ◌-◌, List, ℕ};
+ghost use Rattle.std.specs.Prelude.{◌≡◌, ◌-◌, List};
 ghost use Rattle.ld_base.specs.declared.parts.DynParts.{DynParts};
 ghost use Rattle.ld_base.specs.declared.parts.Head.{Head};
 ghost use Rattle.ld_base.specs.declared.parts.Tag.{Tag};

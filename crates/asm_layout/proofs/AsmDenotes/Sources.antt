@@ -1,5 +1,5 @@
 -- A source denotes one object, or is refused once.
-use Rattle.std.proofs.Common.{◌≡◌, ◌↔◌, ◌⊎◌, inl, inr, ℕ, ◌+◌, Bool, true, false, List, Ok, Err, refl, sym, ap, subst, ◌∙◌}
+use Rattle.std.proofs.Common.{◌≡◌, ◌↔◌, ◌⊎◌, inl, inr, ℕ, Bool, true, false, List, Ok, Err, refl, sym, ap, subst, ◌∙◌}
 use Rattle.std.specs.Prelude.{Result}
 use Rattle.ld_base.specs.declared.fault.AsmCause.{AsmCause}
 use Rattle.ld_base.specs.declared.fault.AsmCause.TheVariants as causes
@@ -8,7 +8,7 @@ use Rattle.asm_grammar.specs.Grammar.{SaysSource, BreaksSource}
 use Rattle.asm_grammar.specs.Reading.{statements_of}
 use Rattle.asm_layout.specs.Faults.{HasNoFault}
 use Rattle.asm_layout.specs.Object.{object_of, is_too_big, last_statement}
-use Rattle.asm_layout.specs.AsmDenotes.Denotes.{AreObjectOf, AreTooBig, BreaksLines, Denotes, BreaksSaid, AsmBroken}
+use Rattle.asm_layout.specs.AsmDenotes.Denotes.{AreObjectOf, BreaksLines, Denotes, AsmBroken}
 use Rattle.asm_layout.proofs.AsmDenotes.Faulty.{IsRefused, clean_or_refused, never_both, one_first}
 
 -- what is known of reading

@@ -1,8 +1,8 @@
 -- The bytes of a section's lines, one line more.
-use Rattle.std.proofs.Common.{arith, ◌==◌, true, Some, ◌≡◌, ℕ, ◌+◌, ◌<◌, ◌≤◌, List, [], ◌∷◌, ◌++◌, length, get_or, drop, refl, sym, ap, ◌∙◌}
+use Rattle.std.proofs.Common.{arith, ◌==◌, true, Some, ◌≡◌, ℕ, ◌+◌, ◌<◌, List, ◌∷◌, ◌++◌, length, get_or, drop, sym, ap, ◌∙◌}
 use Rattle.std.specs.Prelude.{slice_get}
 use Rattle.std.proofs.lemmas.Bool.Decides.{nat_tests}
-use Rattle.std.proofs.lemmas.List.{append_assoc, append-nil, at_drop_more, drop_all}
+use Rattle.std.proofs.lemmas.List.{append_assoc, at_drop_more}
 use Rattle.asm_write.specs.declared.starts.Starts.{Starts}
 use Rattle.asm_statement.specs.declared.directive.Section.{Section}
 use Rattle.asm_statement.specs.declared.line.Line.{Line}
@@ -21,11 +21,6 @@ one_more lines starts section n line out new whole below is grown before =
     let rest = lines_bytes lines starts section (n + 1) (drop (n + 1) lines) in
     ap (λ (bytes : List ℕ). bytes ++ rest) grown ∙ append_assoc out (bytes_in lines starts section n line) rest
     ∙ ap (λ (xs : List Line). out ++ lines_bytes lines starts section n xs) (sym (dropped lines n line below is)) ∙ before
-
-pub at_end : (lines : List Line) (starts : Starts) (section : Section) (n : ℕ) (out whole : List ℕ) → length lines ≤ n
-    → out ++ lines_bytes lines starts section n (drop n lines) ≡ whole → out ≡ whole
-at_end lines starts section n out whole over all =
-    sym (append-nil out) ∙ ap (λ (xs : List Line). out ++ lines_bytes lines starts section n xs) (sym (drop_all n lines over)) ∙ all
 
 pub same_number : (m n : ℕ) → m ≡ n → (m == n) ≡ true
 same_number m n e = grind (arith, nat_tests)

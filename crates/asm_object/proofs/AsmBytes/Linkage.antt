@@ -1,17 +1,13 @@
 -- The words of the procedure linkage table, and their bytes.
-use Rattle.std.proofs.Common.{◌≡◌, ℕ, zero, suc, arith, ◌+◌, ◌*◌, ℤ, pos, negsuc, ◌-ℤ◌, List, [], ◌∷◌, ◌++◌, map, refl, ap, sym, ◌∙◌}
+use Rattle.std.proofs.Common.{◌≡◌, ℕ, arith, ◌+◌, ◌*◌, pos, ◌-ℤ◌, List, [], ◌∷◌, ◌++◌, map, refl, ap, sym, ◌∙◌}
 use Rattle.std.specs.Prelude.{flat_map}
 use Rattle.std.specs.List.{range_with_len}
 use Rattle.std.proofs.lemmas.List.{flat_map_more}
 use Rattle.std.proofs.lemmas.List.FromFn.{map-range_with_len_more}
 use Rattle.rv_isa.specs.declared.instr.Instr.{Instr}
 use Rattle.rv_isa.specs.declared.instr.Instr.TheVariants as instrs
-use Rattle.rv_isa.specs.declared.operation.ImmOp.TheVariants as imms
-use Rattle.rv_isa.specs.declared.operation.LoadOp.TheVariants as loads
-use Rattle.rv_isa.specs.declared.operation.RegOp.TheVariants as ops
 use Rattle.rv_isa.specs.Encoding.{word_of}
-use Rattle.asm_layout.specs.Expansions.{upper, lower}
-use Rattle.asm_layout.specs.Object.{plt_begin, plt_slot, instr_bytes, slot_code as code_of_slot, plt_bytes}
+use Rattle.asm_layout.specs.Object.{plt_begin, plt_slot, instr_bytes, slot_code as code_of_slot}
 use Rattle.asm_object.specs.AsmBytes.Words.{word_bytes, begin_words, slot_words, begin_code, slot_code}
 
 map-id : (ns : List ℕ) → map (λ n. n) ns ≡ ns

@@ -1,5 +1,5 @@
 -- What the bytes of lines are made of.
-use Rattle.std.specs.Prelude.{◌≡◌, List, length}
+use Rattle.std.specs.Prelude.{List, length}
 use Rattle.asm_write.specs.declared.starts.Starts.{Starts}
 use Rattle.asm_statement.specs.declared.line.Line.{Line}
 use Rattle.asm_places.specs.Counts.{ArePlacesTo}

@@ -8,7 +8,6 @@ ghost use Rattle.asm_layout.specs.Uses.{slots};
 ghost use Rattle.asm_places.specs.Counts.{ArePlacesTo};
 ghost use Rattle.asm_code.specs.Code.{AreWordsOf};
 ghost use Rattle.asm_object.specs.AsmBytes.Numbers.{AreNumbersOf};
-ghost use Rattle.asm_object.specs.AsmBytes.Source.{IsSourceOf};
 
 use crate::asm_bytes::plt::plt_bytes;
 use crate::asm_bytes::sections::Source;

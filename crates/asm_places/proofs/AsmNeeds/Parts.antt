@@ -1,5 +1,5 @@
 -- What needs ask of files, one need more.
-use Rattle.std.proofs.Common.{◌≡◌, ℕ, ◌+◌, ◌<◌, ◌≤◌, nat_lt, Bool, true, false, not, ◌&&◌, List, [], ◌∷◌, ◌++◌, length, get_or, set, map, filter, Some, None, refl, sym, ap, ◌∙◌, append-nil, arith}
+use Rattle.std.proofs.Common.{◌≡◌, ℕ, ◌+◌, ◌<◌, ◌≤◌, nat_lt, Bool, true, false, not, ◌&&◌, List, [], ◌∷◌, ◌++◌, length, get_or, map, filter, Some, None, refl, sym, ap, ◌∙◌, append-nil, arith}
 use Rattle.std.specs.Prelude.{if◌then◌else◌, Option, position}
 use Rattle.std.specs.Str.{bytes_eq}
 use Rattle.std.proofs.lemmas.Cmp.{nat_list_eq_equiv}
@@ -61,14 +61,6 @@ part_more needs need file =
 size : (need : Need) (at : Option ℕ) (files : List NeededFile) → length (with_need_at need at files) ≡ length files
 size need None files = refl
 size need (Some at) files = length-set files at (with_need need (get_or files at nothing))
-
-here_case : (need : Need) (file : List ℕ) (old : NeededFile) (b : Bool) → b ≡ true → with_need need old ≡ (if b then with_need need old else old)
-here_case need file old true e = refl
-here_case need file old false e = absurd (cc e)
-
-there_case : (need : Need) (old : NeededFile) (b : Bool) → b ≡ false → old ≡ (if b then with_need need old else old)
-there_case need old true e = absurd (cc e)
-there_case need old false e = refl
 
 pub spread : (names : List (List ℕ)) (needs : List Need) (need : Need) (old : List NeededFile) → AreFirsts names → ArePartOf names needs old
     → ArePartOf names (needs ++ need ∷ []) (with_need_at need (position (bytes_eq need.file) names) old)

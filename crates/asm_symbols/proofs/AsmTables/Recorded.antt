@@ -1,5 +1,5 @@
 -- The records of versions, one more.
-use Rattle.std.proofs.Common.{◌≡◌, ◌∙◌, ap, sym, ℕ, ◌+◌, ◌-◌, List, [], ◌∷◌, ◌++◌, drop, length, take, append_assoc, length-drop, arith}
+use Rattle.std.proofs.Common.{◌≡◌, ◌∙◌, ap, ℕ, ◌+◌, ◌-◌, List, [], ◌∷◌, ◌++◌, drop, length, take, append_assoc, length-drop, arith}
 use Rattle.std.proofs.lemmas.List.{take_all}
 use Rattle.asm_write.specs.declared.contents.VersionRecord.{VersionRecord}
 use Rattle.sym_hash.specs.Hash.{sysv_hash}

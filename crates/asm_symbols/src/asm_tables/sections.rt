@@ -2,7 +2,7 @@
 
 ghost use Rattle.std.specs.Prelude.{◌≡◌};
 ghost use Rattle.asm_statement.specs.declared.directive.Section.TheVariants as sections;
-ghost use Rattle.asm_layout.specs.Places.{is_section, section_behind};
+ghost use Rattle.asm_layout.specs.Places.{section_behind};
 ghost use Rattle.asm_layout.specs.Spots.{aligned_by, aligning, least_alignment, section_align, extent_of, sections_of};
 ghost use Rattle.asm_places.specs.Counts.{Counts};
 

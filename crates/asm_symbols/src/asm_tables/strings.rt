@@ -1,6 +1,6 @@
 //! The string table.
 
-ghost use Rattle.std.specs.Prelude.{◌≡◌, ◌++◌, ◌∷◌, [], OnOk, flat_map, map, option_map};
+ghost use Rattle.std.specs.Prelude.{◌≡◌, ◌++◌, OnOk, flat_map, map, option_map};
 ghost use Rattle.asm_layout.specs.Contents.{string_bytes};
 ghost use Rattle.asm_layout.specs.Tables.{library_needed, needed};
 ghost use Rattle.asm_symbols.specs.AsmTables.Needed.{library_bytes};

@@ -205,10 +205,6 @@ abbrev pub others_of : List Text → List Piece
 others_of [] = []
 others_of (word ∷ words) = Piece.other word ∷ others_of words
 
-pub right_others : (words : List Text) → AreRight (others_of words)
-right_others [] = tt
-right_others (word ∷ words) = (tt, right_others words)
-
 none_stand : (c : Switch) (words : List Text) → stands c (others_of words) ≡ false
 none_stand c [] = refl
 none_stand c (word ∷ words) = none_stand c words

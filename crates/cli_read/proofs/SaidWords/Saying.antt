@@ -41,9 +41,6 @@ joined_at known word rest c signed is valued =
 
 -- ---- the front
 
-end_at : (known : List Switch) (rest : List Text) → read_front known (codes "--") rest ≡ Some (fronts.End, rest)
-end_at known rest = refl
-
 no_end : (word : Text) → is_option word ≡ false → bytes_eq word (codes "--") ≡ false
 no_end word none = either (bytes_eq word (codes "--")) refl
   where

@@ -1,5 +1,5 @@
 -- Items, one by one.
-use Rattle.std.proofs.Common.{◌≡◌, ◌⊎◌, inl, inr, ⊎_elim, ℕ, zero, suc, ◌^◌, ◌<◌, ◌≤◌, List, [], ◌∷◌, ◌++◌, length, get_or, map, take, codes, Bor, ◌+◌, Option, Some, None, IfErr, IfOk, Result, Ok, Err, refl, sym, ap, subst, ◌∙◌, arith}
+use Rattle.std.proofs.Common.{◌≡◌, ℕ, zero, suc, ◌^◌, ◌<◌, ◌≤◌, List, [], ◌∷◌, ◌++◌, length, get_or, map, take, codes, Bor, ◌+◌, Option, Some, None, IfErr, IfOk, Result, Ok, Err, refl, sym, ap, subst, arith}
 use Rattle.std.proofs.lemmas.Option.{none-some, same_Some}
 use Rattle.std.proofs.lemmas.Bool.{true≢false}
 use Rattle.std.proofs.lemmas.List.{map_more}
@@ -18,14 +18,6 @@ writes harts text item x = x.written
 
 pub within : (harts : ℕ) (text : List ℕ) (item : TurnItem) → IsItem harts text item → IsWithin harts item.hart item.count
 within harts text item x = record { there = x.hart; some = x.some; most = x.most }
-
-pub is_item : (harts : ℕ) (text : List ℕ) (h c : ℕ) (item : TurnItem) → Writes text h c → IsWithin harts h c → item.hart ≡ h → item.count ≡ c → IsItem harts text item
-is_item harts text h c item writes x hart count = record {
-  hart = subst (λ n. n < harts) (sym hart) x.there;
-  some = subst (λ n. 1 ≤ n) (sym count) x.some;
-  most = subst (λ n. n ≤ 2 ^ 32) (sym count) x.most;
-  written = subst (λ (p : ℕ × ℕ). Writes text p.0 p.1) (λ i. (sym hart i, sym count i)) writes;
-}
 
 -- no numbers are written, or none that are within
 

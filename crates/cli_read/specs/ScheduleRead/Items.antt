@@ -1,7 +1,6 @@
 -- What an item says, before it is asked whether there is such a hart and how many turns it may take.
 use Rattle.std.specs.Prelude.{◌≡◌, ◌⊎◌, ℕ, ◌^◌, ◌<◌, ◌≤◌, List, ◌++◌, codes}
 use Rattle.std.specs.Fmt.{decimal}
-use Rattle.world_turns.specs.declared.schedules.schedule.TurnItem.{TurnItem}
 
 abbrev pub Writes : List ℕ → ℕ → ℕ → Type 0
 Writes text hart count = (text ≡ decimal hart ++ codes "*" ++ decimal count) ⊎ ((text ≡ decimal hart) × (count ≡ 1))

@@ -1,5 +1,5 @@
 -- Closings that are to be made.
-use Rattle.std.specs.Prelude.{◌≡◌, ℕ, ◌≤◌, List, count_by, map}
+use Rattle.std.specs.Prelude.{ℕ, ◌≤◌, List, count_by, map}
 use Rattle.history_event.specs.declared.event.Range.{Range}
 use Rattle.history_state.specs.Objects.{has}
 use Rattle.history_state.specs.Step.{dying_in, goes_with, lowered_in}

@@ -2,7 +2,6 @@
 
 ghost use Rattle.std.specs.Prelude.{◌≡◌, find};
 ghost use Rattle.std.specs.Option.{option_copied};
-ghost use Rattle.history_state.specs.Allowed.{closable};
 ghost use Rattle.close_mark.specs.ClosingGraph.Graphs.{has_closable, is_closable};
 
 use scope_rule::{Namespace, OpenRec};

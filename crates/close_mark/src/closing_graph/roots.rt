@@ -1,7 +1,6 @@
 //! The roots.
 
 ghost use Rattle.std.specs.Prelude.{◌≡◌, ◌++◌, filter, map, IfOk, OnOk};
-ghost use Rattle.std.specs.List.{flat_map};
 ghost use Rattle.history_state.specs.Links.{stays, staying_roots};
 ghost use Rattle.close_mark.specs.ClosingGraph.Graphs.{all_roots, is_left, left_roots, staying, touched};
 

@@ -3,7 +3,7 @@
 ghost use Rattle.std.specs.Prelude.{◌≡◌, ◌+◌, ◌≤◌, ◌++◌, count_by, filter, map, not, IfOk};
 ghost use Rattle.std.specs.List.{flat_map};
 ghost use Rattle.std.specs.Vec.{vec_capacity, vec_len};
-ghost use Rattle.history_state.specs.Objects.{has, serial_of};
+ghost use Rattle.history_state.specs.Objects.{has};
 ghost use Rattle.history_state.specs.Step.{gone_in, is_left};
 ghost use Rattle.close_mark.specs.UnmappedObjects.Taken.{goes};
 

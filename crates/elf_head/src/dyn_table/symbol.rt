@@ -1,9 +1,8 @@
 //! The symbol table (gABI, "Symbol Table").
 
-ghost use Rattle.std.specs.Prelude.{◌≡◌, ◌+◌, ◌*◌, ◌<◌, ◌≤◌, ℕ, length, IfOk, Some};
+ghost use Rattle.std.specs.Prelude.{◌≡◌, ◌+◌, ◌*◌, ◌<◌, ◌≤◌, length, IfOk, Some};
 ghost use Rattle.std.specs.List.{slice_get};
 ghost use Rattle.ld_base.specs.declared.object.Symbol.{Symbol};
-ghost use Rattle.elf_head.specs.DynTable.Name.{string_in};
 ghost use Rattle.elf_head.specs.DynTable.Symbol.{bare_symbols, symbol_named, symbols_in};
 
 use crate::dyn_table::string::{read_string, string_at, with_name};

@@ -23,7 +23,7 @@ use Rattle.history_state.specs.Lemmas.Lists.{none_in}
 use Rattle.history_state.specs.Setting.{Setting}
 use Rattle.history_state.specs.State.{State}
 use Rattle.history_calls.specs.Answer.{Answer, returns, loading, closing, refused, granted, told, again, over}
-use Rattle.history_calls.specs.Call.{Call, resolves, opens, looks_up, closes, unmaps, asks_fault, locates, writes, stops}
+use Rattle.history_calls.specs.Call.{Call, opens, looks_up, locates, writes, stops}
 use Rattle.history_calls.specs.Call as call
 use Rattle.history_calls.specs.Functions.{left}
 use Rattle.history_calls.specs.Gives.{EventAnswers, Gives, Serves}

@@ -1,6 +1,6 @@
 //! The refusals that are kept for harts.
 
-ghost use Rattle.std.specs.Prelude.{◌≡◌, ◌<◌, None, [], ◌∷◌, ◌++◌, filter, find, length, slice_get, IfNone, IfSome, OnOk, OnErr};
+ghost use Rattle.std.specs.Prelude.{◌≡◌, ◌<◌, None, [], ◌∷◌, ◌++◌, filter, find, length, slice_get, IfNone, IfSome, OnOk};
 ghost use Rattle.std.specs.Option.{option_copied};
 ghost use Rattle.history_journal.specs.LinkHarts.Kept.{fault_of, is_anothers, is_of};
 

@@ -111,9 +111,6 @@ unfold_roots : (s : State) (d : ℕ) → Contains (startup_serials s ++ flat_map
 unfolding roots
 unfold_roots s d h = h
 
-edge_to : ℕ → ℕ → Edge
-edge_to from d = record { source = from; target = d }
-
 in_edges_to : (from : ℕ) (ds : List ℕ) (d : ℕ) → Contains ds d → Contains (edges_to from ds) (record { source = from; target = d })
 in_edges_to from ds d h = in_map (λ x. record { source = from; target = x }) ds d h
 

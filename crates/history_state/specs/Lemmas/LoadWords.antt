@@ -1,5 +1,5 @@
 -- What slots got at load, and what grants give them, are words: each is an address of 64 bits.
-use Rattle.std.proofs.Common.{◌≡◌, ◌∙◌, ap, sym, subst, refl, ⊎_elim, ℕ, ◌+◌, ◌%◌, ◌<◌, Bool, true, false, eqb, List, [], ◌∷◌, ◌++◌, map, Option, Some, None, arith}
+use Rattle.std.proofs.Common.{◌≡◌, ◌∙◌, ap, sym, subst, refl, ⊎_elim, ℕ, ◌+◌, ◌%◌, ◌<◌, Bool, true, false, eqb, List, ◌++◌, map, Option, Some, None, arith}
 use Rattle.std.specs.Prelude.{if◌then◌else◌, ◌^◌, nat_le, nat_lt}
 use Rattle.std.specs.List.{slice_get, Contains, find}
 use Rattle.std.specs.Option.{option_and_then, option_map, option_map_or}

@@ -115,9 +115,6 @@ alone text some plain = (
   (bare text (begins_bare text plain) (ends_bare text plain), tt),
 )
 
-name_read : (text : List ℕ) → is_name text ≡ true → name text ≡ Some text
-name_read text is = rw is refl
-
 -- directives of a name
 
 by_name : (word : NameWord) (text : List ℕ) → is_name text ≡ true → directive (words.Name word) text ≡ Some (named word text)

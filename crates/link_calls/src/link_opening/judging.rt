@@ -1,7 +1,6 @@
 //! What is asked of an opening.
 
 ghost use Rattle.std.specs.Prelude.{◌≡◌, ◌<◌, false, IfErr, IfOk, IfNone, IfSome, IsTrue, Some, ℕ};
-ghost use Rattle.std.specs.Option.{option_copied};
 ghost use Rattle.history_state.specs.After.{after};
 ghost use Rattle.history_state.specs.Asking.{IsAsked, IsFreeNumber, IsNamespace, asks_too_long};
 ghost use Rattle.history_state.specs.Objects.{has_namespace, is_startup};

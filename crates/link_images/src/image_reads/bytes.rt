@@ -1,6 +1,6 @@
 //! Bytes and words of an image.
 
-ghost use Rattle.std.specs.Prelude.{◌≡◌, ℕ, ◌+◌, ◌*◌, ◌%◌, length, IfOk};
+ghost use Rattle.std.specs.Prelude.{◌≡◌, ℕ, ◌*◌, ◌%◌, length, IfOk};
 ghost use Rattle.link_images.specs.ImageReads.Reads.{byte_within, bytes_within};
 ghost use Rattle.seg_image.specs.Accepted.{Accepted};
 ghost use Rattle.seg_image.specs.Images.{AreBytes, IsImage};

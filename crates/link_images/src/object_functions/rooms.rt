@@ -1,12 +1,11 @@
 //! Room for constructors.
 
-ghost use Rattle.std.specs.Prelude.{◌≡◌, ℕ, ◌≤◌, ◌<◌, ◌^◌, List, Some, IfOk, Contains, length, map};
+ghost use Rattle.std.specs.Prelude.{◌≡◌, ℕ, ◌≤◌, ◌<◌, List, Some, IfOk, Contains, length, map};
 ghost use Rattle.std.specs.List.{flat_map, slice_get};
 ghost use Rattle.ld_base.specs.declared.linking.Loaded.{Loaded as loaded};
 ghost use Rattle.seg_image.specs.declared.image.Image.{Image as image};
 ghost use Rattle.history_graph.specs.Initialised.{InitOrder, program_last};
 ghost use Rattle.history_state.specs.Links.{found_edges};
-ghost use Rattle.history_state.specs.Memory.{image_of};
 ghost use Rattle.history_state.specs.Objects.{serial_of};
 ghost use Rattle.history_state.specs.State.{Linked, State};
 ghost use Rattle.history_calls.specs.Functions.{AreOf, constructors, object_of};

@@ -1,10 +1,8 @@
 //! What is kept of images.
 
-ghost use Rattle.std.specs.Prelude.{◌≡◌, ℕ, ◌+◌, ◌≤◌, ◌++◌, length, map, Contains, Some, IfOk};
-ghost use Rattle.std.specs.List.{slice_get};
+ghost use Rattle.std.specs.Prelude.{◌≡◌, ◌+◌, ◌≤◌, ◌++◌, map, Contains, IfOk};
 ghost use Rattle.std.specs.Vec.{vec_len};
 ghost use Rattle.link_images.specs.Parts.{part_of};
-ghost use Rattle.link_images.specs.ImageReads.Reads.{IsImageOf};
 ghost use Rattle.ld_base.specs.declared.linking.Loaded.{Loaded as loaded};
 ghost use Rattle.history_state.specs.Accepted.{IsAccepted};
 ghost use Rattle.history_state.specs.State.{Linked};

@@ -1,6 +1,6 @@
 -- Pages that were given to what is wanted.
-use Rattle.std.proofs.Common.{◌≡◌, ⊎_elim, ℕ, ◌+◌, ◌*◌, Bool, true, false, cond, List, [], ◌∷◌, ◌++◌, map, length, Option, Some, None, refl, sym, ap, subst, ◌∙◌, arith}
-use Rattle.std.specs.List.{Contains, count_by, range_with_len}
+use Rattle.std.proofs.Common.{◌≡◌, ⊎_elim, ℕ, ◌+◌, Bool, true, false, cond, List, [], ◌∷◌, ◌++◌, map, Option, Some, None, sym, ap, subst, ◌∙◌}
+use Rattle.std.specs.List.{Contains, range_with_len}
 use Rattle.std.proofs.lemmas.List.Elements.{Contains-append_cases}
 use Rattle.address_space.specs.Pages.{AllFree, without}
 use Rattle.ld_base.specs.declared.linking.Loaded.{Loaded}
@@ -8,7 +8,7 @@ use Rattle.history_event.specs.declared.event.OpenAsk.{OpenAsk}
 use Rattle.history_event.specs.declared.event.Range.{Range}
 use Rattle.history_state.specs.Areas.{Area, AreGiven, StandsAt, Where, areas, anywhere, free_pages, has_storage, object_area, only, other_areas, stack_area, static_area, static_areas}
 use Rattle.history_state.specs.Objects.{has, is_startup}
-use Rattle.history_state.specs.Opening.{Opens, OpensName}
+use Rattle.history_state.specs.Opening.{OpensName}
 use Rattle.history_state.specs.Setting.{Setting}
 use Rattle.history_state.specs.State.{State, Statics}
 use Rattle.history_state.specs.Step.{goes_with, purpose_goes}

@@ -1,6 +1,6 @@
 -- Walks of a System V table.
 use Rattle.std.proofs.Common.{◌≡◌, ◌≢◌, sym, subst, ℕ, suc, ◌+◌, ◌-◌, ◌%◌, ◌≤◌, Bool, true, false, List, length, refl, arith, inl, inr}
-use Rattle.std.specs.Prelude.{◌⊎◌, ◌==◌, ◌||◌, if◌then◌else◌, Some, None, slice_index}
+use Rattle.std.specs.Prelude.{◌⊎◌, ◌==◌, ◌||◌, if◌then◌else◌, Some, slice_index}
 use Rattle.std.specs.List.{slice_get}
 use Rattle.std.proofs.lemmas.Bool.{cases_lt, eq-eqb, eqb-true, or_cases}
 use Rattle.std.proofs.lemmas.List.{get_or_past}
@@ -128,11 +128,3 @@ reached s hash bucket w b at knows name is =
     (λ k r.
     let same : r.bucket ≡ bucket = cc (own, r.begins) in
     record { links = r.links; few = r.few; leads = subst (λ x. Leads s.chain x r.links k) same r.leads; some = r.some })
-
-not_there : (s : SysvPart) (hash : ℕ) → slice_get s.buckets (hash % length s.buckets) ≡ None → (name : List ℕ) → hash ≡ sysv_hash name → (k : ℕ) → ReachedBySysv s name k → ⊥
-not_there s hash at name is k r =
-    let own : slice_get s.buckets (hash % length s.buckets) ≡ Some r.bucket = rw is r.begins in
-    absurd (cc)
-
-pub not_reached : (s : SysvPart) (hash : ℕ) (w : Search) (b : Best) → b ≡ nothing → slice_get s.buckets (hash % length s.buckets) ≡ None → (name : List ℕ) → hash ≡ sysv_hash name → Knows w (ReachedBySysv s name) b
-not_reached s hash w b empty at name is = rw empty (knows_nothing w (ReachedBySysv s name) (not_there s hash at name is))

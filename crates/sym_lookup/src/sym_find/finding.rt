@@ -1,7 +1,6 @@
 //! Finding a symbol by the hash table of its object.
 
-ghost use Rattle.std.specs.Prelude.{◌≡◌, ◌↔◌, ℕ, IfSome, IsTrue, Some, ◌&&◌, ◌||◌, not, true, false};
-ghost use Rattle.std.specs.List.{slice_get};
+ghost use Rattle.std.specs.Prelude.{◌≡◌, ◌↔◌, ℕ, IfSome, IsTrue, Some, ◌&&◌, ◌||◌, true, false};
 ghost use Rattle.ld_base.specs.Pick.{has_version, is_offer, is_wanted, names_no_version, pick_of};
 ghost use Rattle.ld_base.specs.Taken.{Exports, fits};
 ghost use Rattle.ld_base.specs.declared.object.Symbol.{Symbol};

@@ -14,14 +14,13 @@ use Rattle.history_state.specs.Areas.{free_pages}
 use Rattle.history_state.specs.Laws.{IsIn}
 use Rattle.history_state.specs.Objects.{has_id}
 use Rattle.history_state.specs.Opening.{IsNamed}
-use Rattle.history_state.specs.Read.{IsUntouched, ObjectsAreRead}
+use Rattle.history_state.specs.Read.{ObjectsAreRead}
 use Rattle.history_state.specs.State.{State, empty_namespace}
 use Rattle.history_state.specs.Step.{namespace_before}
 use Rattle.history_state.specs.Lemmas.Lists.{found_in, here, later}
 use Rattle.history_journal.specs.Following.{machine_of}
 use Rattle.link_open_plan.specs.Before.{IsBefore, IsObject}
 use Rattle.link_open_plan.specs.ObjectPlaces.Placing.{statics_of}
-use Rattle.link_open_plan.specs.Startup.{IsFirst}
 use Rattle.link_open_plan.specs.declared.before.Before.{Before}
 use Rattle.scope_rule.specs.declared.namespace.Namespace.{Namespace}
 use Rattle.seg_image.specs.Accepted.{Accepted}
@@ -58,16 +57,6 @@ before_is l b past ask name id folders files x binds begun shows named namespace
   modules = x.modules ∙ shows.state.modules;
   statics = statics_are l b x ∙ shows.state.statics;
   binds = binds ∙ shows.state.binds;
-}
-
-pub first_is : (l : Lists) (b : Before) (past : List Event) → Lends l b → b.binds_now ≡ false → b.namespace.now ≡ empty_namespace 0 → Shows past l → IsUntouched (after past) → IsFirst b
-first_is l b past x binds namespace shows u = record {
-  namespace = namespace;
-  next = x.next ∙ shows.state.next ∙ u.next;
-  free = x.free ∙ ap free_pages (shows.state.ranges ∙ u.ranges);
-  modules = x.modules ∙ shows.state.modules ∙ u.modules;
-  statics = statics_are l b x ∙ shows.state.statics ∙ u.statics;
-  binds = binds;
 }
 
 -- ---- the objects of the namespace

@@ -1,6 +1,6 @@
 //! What startup's opening is.
 
-ghost use Rattle.std.specs.Prelude.{◌≡◌, ◌≤◌, ◌↔◌, ◌+◌, ℕ, [], List, None, Some, IfErr, IfOk, IsTrue, length};
+ghost use Rattle.std.specs.Prelude.{◌≡◌, ◌≤◌, ◌↔◌, ℕ, [], List, None, Some, IfErr, IfOk, IsTrue};
 ghost use Rattle.history_event.specs.declared.event.Event.{Event};
 ghost use Rattle.history_event.specs.declared.event_line.OpenLine.{OpenLine as ALine};
 ghost use Rattle.history_state.specs.Asking.{IsStartupAsk};
@@ -18,7 +18,7 @@ use crate::opening_rows::law::startup_needs_no_past;
 use history_calls::{Setup, one_answer};
 use history_event::{OpenAsk, OpenLine, Opening};
 use history_state::nothing_comes_before_startup;
-use ld_base::{HartId, Name, Names, NsId, Serial};
+use ld_base::{HartId, Name, Names, NsId};
 use library_source::Library;
 use link_lists::Copied;
 use link_open_plan::{Before, plan_program};

@@ -1,5 +1,5 @@
 -- The rule holds at the start.
-use Rattle.std.proofs.Common.{◌≡◌, ◌≢◌, ◌⊎◌, inl, inr, ℕ, zero, suc, ◌+◌, ◌*◌, ◌≤◌, ◌<◌, List, [], ◌∷◌, ◌++◌, length, get_or, replicate, Option, Some, None, Contains, refl, sym, ap, subst, ◌∙◌, arith, slice_get, slice_index, slice_index_or}
+use Rattle.std.proofs.Common.{◌≡◌, ◌≢◌, ◌⊎◌, inl, inr, ℕ, zero, suc, [], ◌∷◌, get_or, replicate, Some, None, Contains, refl, sym, subst, arith, slice_index}
 use Rattle.std.proofs.lemmas.List.{length-replicate}
 use mathlib.Core.Option.{some, some-injective, some-ne-none}
 use lib.ListN.{get_elem?}
@@ -17,7 +17,7 @@ use Rattle.word_rule.specs.Start.{first_keeper, first_words, IsFirst}
 use Rattle.word_rule.specs.Seats.{Fits}
 use Rattle.word_rule.specs.Words.{nobody, keeper, hart, LockIs, Owner, Words}
 use Rattle.word_rule.specs.Calls.{Calls, RowIs}
-use Rattle.word_rule.specs.Slots.{GrantsAre, Slots}
+use Rattle.word_rule.specs.Slots.{Slots}
 use Rattle.word_rule.specs.Generations.{Generations}
 use Rattle.word_rule.specs.Fetches.{FetchesFind, StandAmong}
 use Rattle.word_rule.specs.Rule.{IsGuest, Parts}

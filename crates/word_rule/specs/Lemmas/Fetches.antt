@@ -1,5 +1,5 @@
 -- The part on what harts run, over each kind of step.
-use Rattle.std.proofs.Common.{◌≡◌, ◌≢◌, ◌⊎◌, ⊎_elim, inl, inr, ℕ, ◌%◌, ◌<◌, Bool, true, false, eqb, nat_le, List, [], ◌∷◌, ◌++◌, length, Some, None, Ok, Contains, refl, sym, ap, subst, ◌∙◌, slice_index_or, ◌==◌}
+use Rattle.std.proofs.Common.{◌≡◌, ◌≢◌, ◌⊎◌, ⊎_elim, inl, inr, ℕ, ◌<◌, Bool, true, false, eqb, nat_le, List, [], ◌∷◌, ◌++◌, length, Some, None, Ok, Contains, refl, sym, ap, subst, ◌∙◌, slice_index_or, ◌==◌}
 use Rattle.std.proofs.lemmas.List.Elements.{Contains-append_left, Contains-push}
 use mathlib.Core.Logic.{dite}
 use native.Mathlib.Decide.{ℕ_discrete}
@@ -8,7 +8,6 @@ use Rattle.ld_base.specs.declared.linking.Role.TheVariants.{None as NoRole, Ro, 
 use Rattle.ld_base.specs.declared.fault.Shown.TheVariants.{Locked}
 use Rattle.rv_hart.specs.Buses.{may_fetch}
 use Rattle.rv_hart.specs.Doublewords.{lane as bytes_in}
-use Rattle.rv_hart.specs.declared.bus.Item.{Item}
 use Rattle.rv_hart.specs.declared.bus.BusFault.{BusFault}
 use Rattle.rv_hart.specs.declared.bus.BusFault.TheVariants.{Again}
 use Rattle.rv_hart.specs.declared.bus.Item.TheVariants as items
@@ -28,10 +27,10 @@ use Rattle.word_rule.specs.declared.view.KeeperView.{KeeperView}
 use Rattle.word_rule.specs.declared.view.Kept.{Kept}
 use Rattle.word_rule.specs.declared.view.Retired.{Retired}
 use Rattle.word_rule.specs.declared.view.TrailItem.{TrailItem}
-use Rattle.word_rule.specs.declared.view.TrailItem.TheVariants.{Call, Took, Exchanged, Done, Generation as ReadGeneration}
-use Rattle.word_rule.specs.Layout.{control_at, doublewords, lock_bit, place_of, role_code, role_in, value_at}
+use Rattle.word_rule.specs.declared.view.TrailItem.TheVariants.{Call, Took, Done}
+use Rattle.word_rule.specs.Layout.{control_at, doublewords, lock_bit, place_of, role_in, value_at}
 use Rattle.word_rule.specs.Views.{kept_at, put, unmapped}
-use Rattle.word_rule.specs.HartSteps.{HartReady, Asked, IsAsked, ask_is_fresh, ask_place, failed, glanced, hart_after, hart_word, heeded, last_control, load_permits, load_place, load_refused, loaded, locked_if, looked, permits, refused, store_place, store_refused, stored}
+use Rattle.word_rule.specs.HartSteps.{HartReady, Asked, IsAsked, ask_is_fresh, ask_place, failed, glanced, hart_after, hart_word, heeded, last_control, load_place, load_refused, loaded, locked_if, looked, permits, refused, store_place, store_refused, stored}
 use Rattle.word_rule.specs.KeeperSteps.{KeeperReady, awaited_if, fixed_by, heeding, keeper_after, keeps_if, retired, with_kept}
 use Rattle.word_rule.specs.Words.{Holds, Words}
 use Rattle.word_rule.specs.Fetches.{AreFetched, Fetches, FetchesFind, FoundCode, HartFetches, IsCode, IsNoFetch, StandAmong}

@@ -21,7 +21,7 @@ use Rattle.word_rule.specs.declared.view.View.{View}
 use Rattle.word_rule.specs.declared.view.View.TheVariants.{Keeper, Hart, Note, Spent}
 use Rattle.word_rule.specs.Layout.{harts_at_most}
 use Rattle.word_rule.specs.Views.{BeginsWith, IsLong, put, no_row, row_of, with_field, entry_of}
-use Rattle.word_rule.specs.KeeperSteps.{KeeperReady, asked, asked_if, awaited_if, handed, heeding, keeper_after, keeper_word, keeps_if, not_found, opened, settled_as}
+use Rattle.word_rule.specs.KeeperSteps.{KeeperReady, asked, asked_if, awaited_if, handed, heeding, keeper_after, keeps_if, not_found, opened, settled_as}
 use Rattle.word_rule.specs.Seats.{Fits, GoesOn, Heard, HartFits, Issued, Seats}
 use Rattle.word_rule.specs.Lemmas.Put.{put_here, put_else, put_each, set_put}
 use Rattle.word_rule.specs.Lemmas.KeeperCalls.{map_row, map_long}

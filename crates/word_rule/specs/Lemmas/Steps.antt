@@ -1,5 +1,5 @@
 -- Each kind of step keeps the rule, and what it tells is true.
-use Rattle.std.proofs.Common.{◌≡◌, ◌≢◌, ◌⊎◌, ⊎_elim, inl, inr, ℕ, ◌+◌, ◌*◌, ◌%◌, ◌≤◌, ◌<◌, Bool, true, false, eqb, List, [], ◌∷◌, ◌++◌, length, length-append, length-set, set, get_or, Option, Some, None, Contains, refl, sym, ap, subst, ◌∙◌, arith, slice_get, slice_index, slice_set, ◌==◌}
+use Rattle.std.proofs.Common.{◌≡◌, ◌≢◌, inl, inr, ℕ, ◌+◌, ◌%◌, ◌≤◌, ◌<◌, Bool, true, false, eqb, List, ◌++◌, length, length-append, length-set, set, Option, Some, None, Contains, refl, sym, ap, subst, ◌∙◌, arith, slice_get, slice_index, ◌==◌}
 use Rattle.std.proofs.lemmas.List.Elements.{Contains-append_left}
 use Rattle.history_event.specs.declared.event.Event.{Event}
 use Rattle.word_rule.specs.declared.entry.Entry.{Entry}
@@ -21,7 +21,7 @@ use Rattle.word_rule.specs.declared.view.View.TheVariants.{Keeper, Hart}
 use Rattle.word_rule.specs.Layout.{doublewords, harts_at_most, table_words, value_at, control_at, state_at, row_at, index_of, place_of, role_in, lock_bit}
 use Rattle.word_rule.specs.Views.{BeginsWith, after, put, entries_of, exchanges_of, kept_at, known_of, row_of}
 use Rattle.word_rule.specs.Operations.{becomes}
-use Rattle.word_rule.specs.HartSteps.{Awaits, HartReady, HartLearns, hart_word, hart_op, hart_after, ask_place, Asked, glanced, looked, locked_if, heeded, permits, ask_is_fresh, store_place}
+use Rattle.word_rule.specs.HartSteps.{Awaits, HartReady, HartLearns, hart_word, hart_op, hart_after, ask_place, Asked, glanced, locked_if, heeded, permits, ask_is_fresh, store_place}
 use Rattle.word_rule.specs.KeeperSteps.{AreJoinedOnce, HasEnded, HasTakenAll, KeeperReady, KeeperLearns, keeper_word, keeper_op, keeper_after}
 use Rattle.word_rule.specs.Seats.{Fits, Seats}
 use Rattle.word_rule.specs.Words.{Words}

@@ -1,26 +1,23 @@
 -- Whose events the journal of a run has, turn by turn.
-use Rattle.std.proofs.Common.{◌≡◌, ◌⊎◌, inl, inr, ⊎_elim, ℕ, zero, suc, ◌<◌, Bool, true, false, cond, List, [], ◌∷◌, ◌++◌, length, map, Option, Some}
+use Rattle.std.proofs.Common.{◌≡◌, ◌⊎◌, inl, inr, ⊎_elim, ℕ, zero, suc, ◌<◌, Bool, true, false, cond, List, [], ◌∷◌, ◌++◌, length, map, Some}
 use Rattle.std.proofs.Common.{None, refl, sym, ap, subst, ◌∙◌, arith, append-nil}
-use Rattle.std.specs.Prelude.{slice_set}
 use Rattle.std.specs.List.{Contains, slice_get}
 use Rattle.std.proofs.lemmas.List.{length-set}
 use Rattle.std.proofs.lemmas.Bool.{false≢true}
 use Rattle.std.proofs.lemmas.Option.{none-some}
-use Rattle.history_event.specs.declared.event.CloseAnswer.{CloseAnswer}
 use Rattle.history_event.specs.declared.event.Event.{Event}
 use Rattle.history_event.specs.declared.event.Event.TheVariants as events
-use Rattle.history_event.specs.declared.hart_end.HartEnd.{HartEnd}
 use Rattle.history_event.specs.declared.hart_end.HartEnd.TheVariants as ends
 use Rattle.history_event.specs.declared.state.Ending.{Ending}
 use Rattle.history_calls.specs.Laws.{hart_of}
-use Rattle.history_calls.specs.Lemmas.Ends.{by_both, step_ends, told_by}
+use Rattle.history_calls.specs.Lemmas.Ends.{step_ends, told_by}
 use Rattle.history_calls.specs.RunJournal.{AreByHarts, IsByHart, IsRunJournal, RunJournalsGrow, RunJournalsStart}
 use Rattle.history_calls.specs.declared.link_served.startup.Setup.{Setup}
 use Rattle.history_state.specs.After.{after}
 use Rattle.history_state.specs.Allowed.{MayEnd}
 use Rattle.history_state.specs.Setting.{Setting}
 use Rattle.history_state.specs.State.{State}
-use Rattle.history_state.specs.Lemmas.History.{after_push, one_behind}
+use Rattle.history_state.specs.Lemmas.History.{after_push}
 use Rattle.history_state.specs.Lemmas.Lists.{here, later}
 use Rattle.rv_hart.specs.Registers.{Registers}
 use Rattle.hart_moves.specs.Harts.{HartState, Offered, Resolving}
@@ -30,13 +27,13 @@ use Rattle.hart_moves.specs.Starting.{starting_registers}
 use Rattle.hart_moves.specs.TurnEvents.Appends.{Appends, NoneEndsOrUnmaps, neither_ends_nor_unmaps}
 use Rattle.hart_moves.specs.TurnEvents.Laws.{TurnsAppend}
 use Rattle.world_turns.specs.declared.schedules.schedule.TurnItem.{TurnItem}
-use Rattle.world_turns.specs.Run.{Finalises, LacksMemory, Run, RunBegins, RunEnds, settled}
+use Rattle.world_turns.specs.Run.{Finalises, Run, RunEnds}
 use Rattle.world_turns.specs.Turn.{Turn}
 use Rattle.world_turns.specs.World.{World, found_harts, found_journal, has_won, settled_by, settling, settling_event}
 use Rattle.world_turns.specs.WorldEnds.Ends.{BeforeFinals, EndsFit, InFinals}
 use Rattle.world_turns.specs.WorldEnds.Laws.{FinalsBegin, FinalsLack, HartsMayEnd, RunsFit, StartFits, TurnsKeepBefore, TurnsKeepFinals}
 use Rattle.world_turns.specs.WorldEnds.Lemmas.Places.{running}
-use Rattle.world_turns.specs.WorldEnds.Lemmas.Settled.{found_keeps, settling_keeps}
+use Rattle.world_turns.specs.WorldEnds.Lemmas.Settled.{found_keeps}
 use Rattle.world_turns.specs.Lemmas.Running.{constructs, finishes, items_keep}
 use Rattle.world_turns.specs.Lemmas.Turning.{freed_length}
 use Rattle.world_laws.specs.RunJournals.Laws.{RunsHaveJournals}

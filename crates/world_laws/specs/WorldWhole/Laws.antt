@@ -16,7 +16,8 @@ abbrev pub TurnsKeepSeen : Type 0
 TurnsKeepSeen = (w : Setting) (h : ℕ) (old new : World) → AcceptsOnly w.machine → Sound w old → Turn w h old new
     → SeesSlots old → SeesSlots new
 
--- at the end of a run the journal is whole: no grant is open, each lost one saw what its slot holds, and what was initialised was finalised
+-- at the end of a run the journal is whole: no grant is open, each lost one of a mapped object saw what its slot holds, and where each hart ended once, by exit,
+-- what was initialised was finalised
 abbrev pub RunsAreWhole : Type 0
 RunsAreWhole = (w : Setting) (setup : Setup) (items : List TurnItem) (world : World) → AcceptsOnly w.machine
     → Run w setup items world → Whole w world.journal

@@ -1,6 +1,5 @@
-use Rattle.std.proofs.Common.{◌≡◌, ◌∙◌, ◌+◌, ◌<◌, ◌++◌, ◌∷◌, [], List, ℕ, ap, sym, drop, get_or, length, refl, take, arith}
+use Rattle.std.proofs.Common.{◌≡◌, ◌∙◌, ◌+◌, ◌<◌, ◌++◌, ◌∷◌, [], List, ℕ, ap, sym, drop, get_or, length, take, arith}
 use Rattle.std.proofs.lemmas.List.{get_or_read}
-use Rattle.asm_write.specs.declared.contents.NeededVersion.{NeededVersion}
 use Rattle.asm_layout.specs.Versions.{first_needed, word, needed_of, needed_records, needed_files, file_versions, strings_length, version_count}
 use Rattle.asm_places.specs.declared.asm_needs.needed_file.NeededFile.{NeededFile}
 use Rattle.asm_places.specs.AsmNeeds.Files.{file_of}

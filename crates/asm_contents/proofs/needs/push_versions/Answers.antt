@@ -1,14 +1,12 @@
-use Rattle.std.proofs.Common.{◌≡◌, ◌∙◌, ◌+◌, ◌-◌, ◌<◌, ◌++◌, ◌∷◌, [], List, ℕ, ap, sym, drop, get_or, length, map, refl, take}
+use Rattle.std.proofs.Common.{◌≡◌, ◌∙◌, ◌+◌, ◌-◌, ◌<◌, ◌++◌, ◌∷◌, [], List, ℕ, ap, sym, drop, get_or, length, map, take}
 use Rattle.std.specs.Global.{Vec}
 use Rattle.std.specs.List.{drop-map}
 use Rattle.std.proofs.lemmas.List.{get_or-map, length-map}
 use Rattle.asm_write.specs.declared.contents.NeededVersion.{NeededVersion}
 use Rattle.sym_hash.specs.Hash.{sysv_hash}
-use Rattle.asm_statement.specs.declared.line.Line.{Line}
 use Rattle.asm_layout.specs.Versions.{half, word, next_need, needed_of, strings_length}
 use Rattle.asm_layout.proofs.Offsets.{cut}
 use Rattle.asm_places.specs.declared.asm_needs.needed_file.NeededFile.{NeededFile}
-use Rattle.asm_places.specs.AsmNeeds.Files.{file_of}
 use Rattle.asm_contents.specs.Needs.{flags_in}
 use Rattle.asm_contents.proofs.Records.{same_default, tail_slice, from_here, version_record, versions_more, offsets_more}
 use Rattle.asm_contents.proofs.needs.push_versions.Goals as goal

@@ -3,7 +3,7 @@ use Rattle.std.proofs.Common.{◌≡◌, ◌∙◌, ◌++◌, ◌∷◌, [], Lis
 use Rattle.std.specs.Prelude.{Option, option_map, option_to_list}
 use Rattle.asm_statement.specs.declared.line.Line.{Line}
 use Rattle.asm_layout.specs.declared.uses.Exported.{Exported}
-use Rattle.asm_layout.specs.Contents.{string_bytes, strings_of, export_names, needed_names, needed_at, imports_at, exports_at, versions_at, files_at, needed_versions_at}
+use Rattle.asm_layout.specs.Contents.{string_bytes, strings_of, export_names, needed_at, imports_at, exports_at, versions_at, files_at}
 use Rattle.asm_layout.specs.Tables.{soname, needed, versions}
 use Rattle.asm_layout.specs.Uses.{imports}
 use Rattle.asm_layout.specs.Versions.{needed_files, file_versions, word}

@@ -1,5 +1,5 @@
 -- Where the parts of an object end: the sizes of all parts, and a page for each.
-use Rattle.std.proofs.Common.{◌≡◌, ℕ, zero, suc, ◌+◌, ◌-◌, ◌*◌, ◌%◌, ◌^◌, ◌<◌, ◌≤◌, ◌==◌, true, false, if◌then◌else◌, List, [], ◌∷◌, length, map, arith, slice_index}
+use Rattle.std.proofs.Common.{◌≡◌, ℕ, zero, suc, ◌+◌, ◌-◌, ◌*◌, ◌%◌, ◌<◌, ◌≤◌, ◌==◌, true, false, if◌then◌else◌, List, [], ◌∷◌, length, map, arith, slice_index}
 use Rattle.std.proofs.Math.Nat.{le-mul_of_pos_right, mod-le, mul_comm}
 use Rattle.ld_base.specs.declared.object.Kind.{Kind}
 use Rattle.ld_base.specs.declared.object.Kind.TheVariants.{Exec, Dyn}

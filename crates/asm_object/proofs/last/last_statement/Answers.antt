@@ -1,5 +1,4 @@
-use Rattle.std.proofs.Common.{arith}
-use Rattle.asm_object.proofs.Lasting.{one_more, at_end}
+use Rattle.asm_object.proofs.Lasting.{one_more}
 use Rattle.asm_object.proofs.last.last_statement.Goals as goal
 
 pub loop-number-preserved : goal.loop-number-preserved

@@ -1,5 +1,5 @@
 use Rattle.std.proofs.lemmas.Option.{slice_get_within}
-use Rattle.std.proofs.Common.{◌<◌, ◌≡◌, length, arith}
+use Rattle.std.proofs.Common.{◌<◌, length, arith}
 use Rattle.plain_world.proofs.run.go_on.Goals as goal
 
 pub next_turns-requires-clause-hart : goal.next_turns-requires-clause-hart

@@ -1,4 +1,3 @@
-use Rattle.std.proofs.Common.{None}
 use Rattle.plain_world.specs.Stretches.{GoesRound}
 use Rattle.plain_world.proofs.Stretches.{next_rounds, runs_alone}
 use Rattle.plain_world.proofs.run.go_rounds.Goals as goal

@@ -1,4 +1,4 @@
-use Rattle.std.proofs.Common.{◌≡◌, ℕ, ◌+◌, ◌-◌, ◌<◌, refl, subst, ◌∙◌, arith}
+use Rattle.std.proofs.Common.{◌≡◌, ℕ, ◌+◌, ◌-◌, refl, subst, ◌∙◌, arith}
 use Rattle.world_answers.specs.GuestsPart.Counting.{counts_at}
 use Rattle.world_answers.specs.GuestsPart.Lemmas.Counting.{unmoved}
 use Rattle.world_turns.specs.Run.{Repeats}

@@ -1,4 +1,4 @@
-use Rattle.std.proofs.Common.{◌≡◌, ℕ, Bool, true, false, Result, Ok, Err, OnErr, None, refl, sym, ap, subst, ◌∙◌, true≢false}
+use Rattle.std.proofs.Common.{◌≡◌, true, false, Result, Ok, Err, OnErr, None, sym, ap, ◌∙◌, true≢false}
 use Rattle.std.specs.Prelude.{is_err}
 use Rattle.rv_hart.specs.Registers.{Registers}
 use Rattle.rv_hart.specs.declared.stepping.Stop.{Stop}

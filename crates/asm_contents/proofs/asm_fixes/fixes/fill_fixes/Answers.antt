@@ -1,5 +1,5 @@
 -- Table by table, section by section.
-use Rattle.std.proofs.Common.{◌≡◌, ◌∙◌, ◌++◌, List, ap}
+use Rattle.std.proofs.Common.{◌∙◌, ◌++◌, List, ap}
 use Rattle.asm_write.specs.declared.contents.Fix.{Fix}
 use Rattle.asm_write.specs.declared.part.Part.TheVariants as parts
 use Rattle.asm_statement.specs.declared.directive.Array.TheVariants as arrays

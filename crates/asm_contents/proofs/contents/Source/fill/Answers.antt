@@ -1,5 +1,5 @@
 -- Step by step.
-use Rattle.std.proofs.Common.{◌≡◌, ◌∙◌, ◌++◌, List, ap, map}
+use Rattle.std.proofs.Common.{◌∙◌, ◌++◌, List, ap, map}
 use Rattle.asm_write.specs.declared.contents.Contents.{Contents}
 use Rattle.asm_layout.specs.declared.uses.Exported.{Exported}
 use Rattle.asm_layout.specs.Contents.{contents_of, elf_kind, entry_name, exports_at, files_at, imports_at, needed_at, needed_versions_at, offsets_from, soname_offset, strings_of, versions_at}
@@ -9,7 +9,7 @@ use Rattle.asm_layout.specs.Symbols.{export_entries, first_export, import_entrie
 use Rattle.asm_layout.specs.Tables.{flags_of, hash_of, needed, soname, versions}
 use Rattle.asm_layout.specs.Uses.{imports, slots}
 use Rattle.asm_layout.specs.Versions.{first_needed, has_versions, need_records, needed_files, needed_records, word}
-use Rattle.asm_contents.specs.Blank.{blank_contents, gnu_table, own_records, sysv_table}
+use Rattle.asm_contents.specs.Blank.{gnu_table, own_records, sysv_table}
 use Rattle.asm_contents.proofs.Joined.{on_ok}
 use Rattle.asm_contents.proofs.contents.Source.fill.Goals as goal
 

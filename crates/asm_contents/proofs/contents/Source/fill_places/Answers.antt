@@ -1,4 +1,4 @@
-use Rattle.std.proofs.Common.{◌≡◌, ◌∙◌, ◌++◌, List, ℕ, ap, map}
+use Rattle.std.proofs.Common.{◌∙◌, ◌++◌, List, ℕ, ap, map}
 use Rattle.asm_write.specs.declared.contents.Fix.{Fix}
 use Rattle.asm_layout.specs.Symbols.{symbol_index}
 use Rattle.asm_layout.specs.Uses.{slots}

@@ -1,4 +1,4 @@
-use Rattle.std.proofs.Common.{◌≡◌, ◌∙◌, ◌++◌, List, ℕ, ap, refl}
+use Rattle.std.proofs.Common.{◌∙◌, ◌++◌, List, ℕ, ap, refl}
 use Rattle.asm_layout.specs.Contents.{needed_at, offsets_from, strings_of}
 use Rattle.asm_layout.specs.Tables.{needed}
 use Rattle.asm_layout.proofs.Offsets.{cut_offsets}

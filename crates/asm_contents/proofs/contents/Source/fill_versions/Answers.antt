@@ -1,4 +1,4 @@
-use Rattle.std.proofs.Common.{◌≡◌, ◌∙◌, ◌++◌, [], List, ℕ, ap}
+use Rattle.std.proofs.Common.{◌∙◌, ◌++◌, [], List, ℕ, ap}
 use Rattle.std.specs.Prelude.{unwrap_or}
 use Rattle.asm_write.specs.declared.contents.NeedRecord.{NeedRecord}
 use Rattle.asm_write.specs.declared.contents.NeededVersion.{NeededVersion}

@@ -1,5 +1,5 @@
 -- A part with bytes ends within the object.
-use Rattle.std.proofs.Common.{◌≡◌, ◌∙◌, ap, sym, ℕ, ◌+◌, ◌-◌, ◌<◌, ◌≤◌, List, length, arith, inl, inr}
+use Rattle.std.proofs.Common.{ap, ◌-◌, ◌≤◌, length, arith, inl, inr}
 use Rattle.std.proofs.lemmas.Bool.{cases_lt}
 use Rattle.asm_write.specs.declared.part.Part.TheVariants as parts
 use Rattle.asm_write.specs.Sizes.{plain_size}

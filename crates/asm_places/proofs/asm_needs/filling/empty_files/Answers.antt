@@ -1,4 +1,3 @@
-use Rattle.std.proofs.Common.{◌∙◌}
 use Rattle.asm_places.proofs.AsmNeeds.Parts.{empty_more}
 use Rattle.asm_places.proofs.asm_needs.filling.empty_files.Goals as goal
 

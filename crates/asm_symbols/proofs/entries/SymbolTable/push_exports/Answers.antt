@@ -1,8 +1,8 @@
-use Rattle.std.proofs.Common.{◌≡◌, ◌∙◌, ◌++◌, ◌+◌, ◌∷◌, ap, sym, List, ℕ, drop, length, map, suc, add-one}
+use Rattle.std.proofs.Common.{◌≡◌, ◌∙◌, ◌++◌, ◌+◌, ◌∷◌, ap, sym, List, ℕ, drop, length, suc, add-one}
 use Rattle.std.specs.Global.{Vec}
 use Rattle.std.proofs.Math.Seq.{drop-cons}
 use Rattle.asm_layout.specs.declared.uses.Exported.{Exported}
-use Rattle.asm_layout.specs.Symbols.{import_entry, import_entries, export_entry, export_entries}
+use Rattle.asm_layout.specs.Symbols.{export_entry, export_entries}
 use Rattle.asm_layout.specs.Versions.{word}
 use Rattle.asm_symbols.proofs.Entered.{export_more}
 use Rattle.asm_symbols.proofs.entries.SymbolTable.push_exports.Goals as goal

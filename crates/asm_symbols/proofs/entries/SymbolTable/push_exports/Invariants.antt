@@ -1,5 +1,5 @@
 -- The entries that are still to come stand behind those that are there.
-use Rattle.std.proofs.Common.{◌≡◌, ◌++◌, List, drop, map}
+use Rattle.std.proofs.Common.{◌≡◌, ◌++◌, List, drop}
 use Rattle.asm_statement.specs.declared.line.Line.{Line}
 use Rattle.asm_layout.specs.Symbols.{export_entries}
 use Rattle.asm_symbols.specs.Facts.{IsTableOf}

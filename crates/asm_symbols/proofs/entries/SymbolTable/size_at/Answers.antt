@@ -1,5 +1,5 @@
-use Rattle.std.proofs.Common.{List, ◌∙◌, ap, sym}
-use Rattle.std.specs.Prelude.{Option, slice_get}
+use Rattle.std.proofs.Common.{List, ◌∙◌, ap}
+use Rattle.std.specs.Prelude.{slice_get}
 use Rattle.asm_statement.specs.declared.line.Line.{Line}
 use Rattle.asm_layout.specs.Labels.{defines}
 use Rattle.asm_layout.specs.Symbols.{size_of_line}

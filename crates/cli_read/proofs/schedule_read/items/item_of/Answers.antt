@@ -1,6 +1,5 @@
-use Rattle.std.proofs.Common.{rules, ◌≡◌, ℕ, ◌<◌, ◌≤◌, ◌^◌, Some, None, IfSome, IfErr, List, sym, ap, subst, ◌∙◌, arith}
+use Rattle.std.proofs.Common.{rules, ◌≡◌, Some, None, sym, subst, ◌∙◌, arith}
 use Rattle.std.proofs.lemmas.Option.{none-some}
-use Rattle.world_turns.specs.SchedulesPart.Grammar.{IsItem}
 use Rattle.cli_read.proofs.ScheduleRead.Each.{for_err, none_written, not_within, ok_or_none}
 use Rattle.cli_read.proofs.ScheduleRead.Texts.{AreNumbers}
 use Rattle.cli_read.proofs.schedule_read.items.item_of.Goals as goal

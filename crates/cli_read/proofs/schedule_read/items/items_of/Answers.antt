@@ -1,6 +1,6 @@
-use Rattle.std.proofs.Common.{rules, ◌≡◌, ℕ, ◌<◌, ◌≤◌, ◌^◌, map, take, List, Bor, length, sym, ap, subst, ◌∙◌, arith, ◌+◌}
+use Rattle.std.proofs.Common.{rules, ℕ, map, take, List, Bor, sym, subst, ◌+◌}
 use Rattle.std.proofs.lemmas.List.{take_all}
-use Rattle.world_turns.specs.SchedulesPart.Grammar.{AreItems, IsItem}
+use Rattle.world_turns.specs.SchedulesPart.Grammar.{AreItems}
 use Rattle.cli_read.proofs.ScheduleRead.Each.{blames, for_err, longer}
 use Rattle.cli_read.proofs.schedule_read.items.items_of.Goals as goal
 

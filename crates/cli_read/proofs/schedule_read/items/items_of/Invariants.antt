@@ -1,4 +1,4 @@
-use Rattle.std.proofs.Common.{ℕ, List, map, take}
+use Rattle.std.proofs.Common.{map, take}
 use Rattle.world_turns.specs.SchedulesPart.Grammar.{AreItems}
 use Rattle.cli_read.proofs.schedule_read.items.items_of.Given as goal
 

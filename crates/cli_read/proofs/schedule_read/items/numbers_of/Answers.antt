@@ -1,4 +1,4 @@
-use Rattle.std.proofs.Common.{rules, ◌≡◌, ℕ, ◌<◌, ◌≤◌, ◌^◌, Some, None, IfSome, map, List, Bor, length, sym, ap, subst, ◌∙◌, arith}
+use Rattle.std.proofs.Common.{rules, ◌≡◌, ℕ, map, List, Bor, length, sym, ap, subst, ◌∙◌, arith}
 use Rattle.std.proofs.lemmas.List.{length-map}
 use Rattle.cli_read.proofs.ScheduleRead.Texts.{AreNumbers, alone, by_star, neither, one_part, pair, two_parts}
 use Rattle.cli_read.proofs.schedule_read.items.numbers_of.Goals as goal

@@ -1,5 +1,5 @@
-use Rattle.std.proofs.Common.{rules, ◌≡◌, ℕ, IfOk, IfErr, map, Bor, List, [], codes, sym, ap, subst, ◌∙◌, arith}
-use Rattle.world_turns.specs.SchedulesPart.Grammar.{AreItems, SaysTurns, parts_of}
+use Rattle.std.proofs.Common.{rules, ◌≡◌, ℕ, map, Bor, List, codes, sym, ap, subst, ◌∙◌}
+use Rattle.world_turns.specs.SchedulesPart.Grammar.{SaysTurns, parts_of}
 use Rattle.cli_read.proofs.ScheduleRead.Each.{by_items, err_so, ok_so, not_turns}
 use Rattle.cli_read.proofs.schedule_read.items.read_turns.Goals as goal
 

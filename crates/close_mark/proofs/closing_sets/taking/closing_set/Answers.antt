@@ -1,4 +1,4 @@
-use Rattle.std.proofs.Common.{◌≡◌, ℕ, List, map, sym, ap, subst, ◌∙◌}
+use Rattle.std.proofs.Common.{List, map, sym, ap, subst, ◌∙◌}
 use Rattle.close_mark.specs.ClosingGraph.Graphs.{all_edges, all_roots}
 use Rattle.ld_base.specs.declared.linking.Loaded.{Loaded}
 use Rattle.history_graph.specs.Reached.{Unneeded}

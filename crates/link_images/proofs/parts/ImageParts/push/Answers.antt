@@ -1,4 +1,4 @@
-use Rattle.std.proofs.Common.{◌≡◌, ◌+◌, ◌<◌, ◌≤◌, ℕ, List, length, get_or, true, rules, sym, subst}
+use Rattle.std.proofs.Common.{◌<◌, ◌≤◌, List, length, get_or, rules, sym, subst}
 use Rattle.std.specs.Prelude.{◌-◌}
 use Rattle.std.specs.List.Sorted.{IsNonDecreasingBy}
 use Rattle.std.proofs.lemmas.List.Sorted.{IsNonDecreasingBy-push}

@@ -2,7 +2,6 @@ use Rattle.std.proofs.Common.{◌≡◌, false, length, map}
 use Rattle.std.specs.List.{Contains, range_with_len}
 use Rattle.history_journal.specs.Following.{machine_of}
 use Rattle.ld_base.specs.declared.linking.Loaded.{Loaded}
-use Rattle.history_event.specs.declared.event.OpenAsk.{OpenAsk}
 use Rattle.history_state.specs.After.{after}
 use Rattle.history_state.specs.Flags.{is_global}
 use Rattle.history_state.specs.Objects.{has, serial_of}

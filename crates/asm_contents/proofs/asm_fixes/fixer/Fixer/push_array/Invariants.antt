@@ -1,5 +1,5 @@
 -- The entries that are still to come stand behind those that are there.
-use Rattle.std.proofs.Common.{◌≡◌, ◌++◌, ◌≤◌, ◌*◌, List, drop}
+use Rattle.std.proofs.Common.{◌≡◌, ◌++◌, ◌≤◌, ◌*◌, drop}
 use Rattle.std.specs.Prelude.{filter_map}
 use Rattle.asm_layout.specs.Fixes.{array_fixes}
 use Rattle.asm_layout.specs.Tables.{entry_in}

@@ -1,7 +1,6 @@
 use Rattle.std.proofs.Common.{◌≡◌, ◌∙◌, ap, ℤ, pos, ◌+ℤ◌, arith}
 use Rattle.std.specs.Int.{int_rem_euclid}
 use Rattle.std.proofs.lemmas.Int.{ints}
-use Rattle.asm_layout.specs.Expansions.{upper, lower}
 use Rattle.asm_object.proofs.AsmBytes.Aligned.{upper_is_aligned}
 use Rattle.asm_object.proofs.asm_bytes.plt.Split.of.Goals as goal
 

@@ -1,4 +1,4 @@
-use Rattle.std.proofs.Common.{◌≡◌, ◌++◌, List, drop}
+use Rattle.std.proofs.Common.{◌≡◌, ◌++◌, drop}
 use Rattle.asm_write.specs.declared.starts.Starts.{Starts}
 use Rattle.asm_layout.specs.Object.{lines_bytes, section_bytes}
 use Rattle.asm_object.specs.AsmBytes.Source.{IsSourceOf}

@@ -1,6 +1,5 @@
-use Rattle.std.proofs.Common.{◌≡◌, ◌∙◌, ap, sym, length, map, List, ℕ}
+use Rattle.std.proofs.Common.{◌∙◌, ap, length, map, List}
 use Rattle.std.proofs.lemmas.List.{length-map}
-use Rattle.asm_layout.specs.Versions.{needed_files}
 use Rattle.asm_places.specs.declared.asm_needs.needed_file.NeededFile.{NeededFile}
 use Rattle.asm_places.specs.AsmNeeds.Filled.{running_counts}
 use Rattle.asm_places.proofs.AsmNeeds.Built.{built_names, built_each, built_firsts, length-running_counts}
