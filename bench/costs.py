@@ -88,7 +88,7 @@ def again_and_again(count, size):
     """A guest opens and closes a library, over and over."""
     loop = f"_start: li s1, {count}\nmore: la a0, n\nli a1, 1\ncall dlopen\ncall dlclose\naddi s1, s1, -1\nbnez s1, more\n"
     prog = ".kind prog\n" + loop + EXIT + '.data\nn: .asciz "libbig.so"\n'
-    big = f".global d\n.data\nd: .zero {size}\n"
+    big = f".soname libbig.so\n.global d\n.data\nd: .zero {size}\n"
     return scenario({"prog": prog, "lib/libbig.so": big}, "turns --lib lib --fuel 100000000 rr prog")
 
 
@@ -97,7 +97,7 @@ def spelled_anew(count, size):
     loop = "more: addi s2, s2, -2\nmv a0, s2\nli a1, 1\ncall dlopen\ncall dlclose\naddi s1, s1, -1\nbnez s1, more\n"
     begin = f"_start: la s2, n\nli s1, {count}\nadd s2, s2, s1\nadd s2, s2, s1\n"
     prog = ".kind prog\n" + begin + loop + EXIT + '.data\nn: .asciz "' + "./" * count + 'lib/libbig.so"\n'
-    big = f".global d\n.data\nd: .zero {size}\n"
+    big = f".soname libbig.so\n.global d\n.data\nd: .zero {size}\n"
     return scenario({"prog": prog, "lib/libbig.so": big}, "turns --lib lib --fuel 100000000 rr prog")
 
 

@@ -1,22 +1,17 @@
 -- The verdict on the dynamic table and its tables, the relations that say what it means, and what it keeps.
-use mathlib.Core.Path.{fun_ext}
-use Rattle.std.proofs.Common.{◌==◌, ◌≡◌, ◌∙◌, ap, refl, ℕ, zero, suc, ◌+◌, Bool, Option, List, [], ◌∷◌, ◌++◌, map, ◌↔◌, ◌<◌, length, Some, None, Ok, Err}
+use Rattle.std.proofs.Common.{◌≡◌, ◌∙◌, ap, refl, ℕ, zero, suc, ◌+◌, Bool, Option, List, [], ◌∷◌, ◌++◌, ◌↔◌, ◌<◌, length, Some, None, Ok, Err}
 use Rattle.std.proofs.Common.{sym, subst, arith, inl, inr}
-use Rattle.std.specs.Prelude.{if◌then◌else◌}
 use Rattle.ld_base.specs.declared.object.Span.{Span}
 use Rattle.elf_dynamic.specs.Named.{named_by, slot_ranges, doubleword}
-use Rattle.std.specs.List.{list_any, position_or_len, slice_get}
+use Rattle.std.specs.List.{slice_get}
 use Rattle.std.specs.Option.{option_map_or}
-use Rattle.std.proofs.lemmas.List.{length-map, map-append}
 use Rattle.ld_base.specs.declared.object.Reloc.{Reloc}
 use Rattle.ld_base.specs.declared.object.Symbol.{Symbol}
 use Rattle.ld_base.specs.declared.parts.Head.{Head}
 use Rattle.ld_base.specs.declared.parts.Tag.{Tag}
-use Rattle.elf_head.specs.AcceptancePart.Table.{table}
-use Rattle.elf_head.specs.DynTable.Name.{string_in, string_at, IsStringAt}
-use Rattle.elf_head.specs.DynTable.Symbol.{bare_symbols, symbol_name, symbol_named, symbols_in}
-use Rattle.elf_dynamic.specs.Rules.{bad_packed, bad_rela, bad_reloc as reloc_rule, bad_slot as slot_rule, bad_symbol as symbol_rule, is_bad_reloc, other_ranges}
-use Rattle.elf_dynamic.specs.Rules.{is_bad_slot, is_no_slot, refused_feature as feature_rule, rules_on, dynamic_verdict, no_dynamic, rules_of, tables_verdict}
+use Rattle.elf_head.specs.DynTable.Name.{string_at, IsStringAt}
+use Rattle.elf_dynamic.specs.Rules.{bad_reloc as reloc_rule, bad_slot as slot_rule, bad_symbol as symbol_rule}
+use Rattle.elf_dynamic.specs.Rules.{refused_feature as feature_rule, dynamic_verdict, no_dynamic, rules_of, tables_verdict}
 use Rattle.elf_dynamic.specs.Rules.{bad_string as string_rule, bad_table as table_rule}
 use Rattle.ld_base.specs.declared.fault.NotAccepted.{NotAccepted}
 use Rattle.ld_base.specs.declared.parts.DynParts.{DynParts}
@@ -27,7 +22,7 @@ use Rattle.elf_head.specs.DynTable.TagNumbers.{dt_symtab, dt_jmprel}
 use Rattle.elf_dynamic.specs.Breaks.{named, IsBadReloc, IsBadRelocAt, IsBadSlot, IsBadSlotAt, IsSlotTable}
 use Rattle.elf_dynamic.specs.Parts.{AreParts, AreTags, AreBytes}
 use Rattle.elf_dynamic.specs.Relr.{begins_odd}
-use Rattle.elf_dynamic.specs.Tables.{bare_in, count_in, dynamic_tags, parts_in, strings_in, symbol_bytes}
+use Rattle.elf_dynamic.specs.Tables.{dynamic_tags, parts_in, symbols_of}
 use Rattle.elf_dynamic.specs.Verdict.{Breaks, BreaksFirst, SpellsDynamic, TablesBreak}
 use Rattle.elf_dynamic.specs.Verdict.Breaks.{no_table, by_tables}
 use Rattle.elf_dynamic.specs.Verdict.TablesBreak.{bad_table, lacks_symbols, bad_name, bad_symbol_name, bad_symbol, bad_reloc, has_feature, bad_slot}
@@ -52,67 +47,6 @@ use Rattle.elf_dynamic.specs.Ranges.{IsPlace, Share}
 use Rattle.elf_head.specs.AcceptancePart.Lemmas.Tests.{decided}
 use Rattle.elf_dynamic.proofs.Tests.{turn, writable_decides}
 
--- ---- no name of a symbol matters to the rules from 13 on
-
--- a symbol without its name
-abbrev pub unnamed : Symbol → Symbol
-unnamed s = record s { name = [] }
-
--- symbols without their names
-pub bare_is : (part strings : List ℕ) (n : ℕ) → map unnamed (symbols_in part strings n) ≡ bare_symbols part n
-unfolding bare_symbols symbols_in
-bare_is part strings n = each n
-  where
-    each : (m : ℕ) → map unnamed (table (λ at. symbol_named part at (string_in strings (symbol_name part at))) 0 24 m)
-        ≡ table (λ at. symbol_named part at []) 0 24 m
-    each zero = refl
-    each (suc m) = let more = each m in rw (map-append, more) refl
-
-any_map : (p : Symbol → Bool) (xs : List Symbol) → list_any p (map unnamed xs) ≡ list_any (λ s. p (unnamed s)) xs
-any_map p [] = refl
-any_map p (x ∷ xs) = rw (any_map p xs) refl
-
-place_map : (p : Symbol → Bool) (xs : List Symbol) → position_or_len p (map unnamed xs) ≡ position_or_len (λ s. p (unnamed s)) xs
-place_map p [] = refl
-place_map p (x ∷ xs) = rw (place_map p xs) refl
-
-size_map : (xs : List Symbol) (i : ℕ)
-    → option_map_or (λ (s : Symbol). s.size) (slice_get (map unnamed xs) i) 0 ≡ option_map_or (λ (s : Symbol). s.size) (slice_get xs i) 0
-size_map [] i = refl
-size_map (x ∷ xs) zero = refl
-size_map (x ∷ xs) (suc i) = size_map xs i
-
-module _ (head : Head) (symbols : List Symbol) where
-  sizes : named_by (map unnamed symbols) ≡ named_by symbols
-  sizes = fun_ext (λ r. ap (λ n. let s : Span = record { start = r.place; size = if r.kind == 0 then 0 else if r.kind == 4 then n else 8 } in s)
-      (size_map symbols r.symbol))
-
-  tests : is_bad_reloc head.headers (map unnamed symbols) ≡ is_bad_reloc head.headers symbols
-  tests = fun_ext (λ r. simp (size_map, length-map))
-
-  symbols_bare : symbol_rule head.headers (map unnamed symbols) ≡ symbol_rule head.headers symbols
-  unfolding symbol_rule
-  symbols_bare = simp (place_map, length-map)
-
-  relocs_bare : (relocs : List Reloc) (odd : Bool) (places : List ℕ)
-      → reloc_rule head.headers (map unnamed symbols) relocs odd places ≡ reloc_rule head.headers symbols relocs odd places
-  unfolding bad_packed bad_rela reloc_rule
-  relocs_bare relocs odd places = rw (sizes, tests) refl
-
-  features_bare : (program : Bool) (tags : List Tag) (relocs : List Reloc)
-      → feature_rule head program tags (map unnamed symbols) relocs ≡ feature_rule head program tags symbols relocs
-  unfolding feature_rule
-  features_bare program tags relocs = simp any_map
-
-  slots_bare : (bytes : List ℕ) (others : List Span) (slots : List Reloc) (pltgot : Option ℕ)
-      → slot_rule bytes head.headers (map unnamed symbols) others slots pltgot ≡ slot_rule bytes head.headers symbols others slots pltgot
-  unfolding slot_rule
-  slots_bare bytes others slots pltgot = simp (sizes, length-map, slot_ranges, is_bad_slot, is_no_slot)
-
-  pub rules_bare : (bytes : List ℕ) (program : Bool) (tags : List Tag) (relocs slots : List Reloc) (packed : List ℕ)
-      → rules_on bytes head program tags (map unnamed symbols) relocs slots packed ≡ rules_on bytes head program tags symbols relocs slots packed
-  rules_bare bytes program tags relocs slots packed = rw (symbols_bare, relocs_bare, features_bare, slots_bare, other_ranges, sizes) refl
-
 -- ---- the verdict on the dynamic table and its tables, and the relations that say what it means
 
 module _ (tags_law : (bytes : List ℕ) (tags : List Tag) → (tags_of bytes ≡ Some tags) ↔ EndsAtNull bytes tags)
@@ -135,14 +69,13 @@ module _ (tags_law : (bytes : List ℕ) (tags : List Tag) → (tags_of bytes ≡
         ∷ slot_rule bytes head.headers parts.symbols (named parts.symbols parts.relocs parts.relr) parts.plt_relocs parts.pltgot
         ∷ []
 
-    bare : map unnamed parts.symbols ≡ bare_in bytes head.headers parts.tags
-    unfolding bare_in parts_in
-    bare = ap (λ (p : DynParts). map unnamed p.symbols) own.is
-        ∙ bare_is (symbol_bytes bytes head.headers parts.tags) (strings_in bytes head.headers parts.tags) (count_in bytes head.headers parts.tags)
+    symbols_are : parts.symbols ≡ symbols_of bytes head.headers parts.tags
+    unfolding parts_in
+    symbols_are = ap (λ (p : DynParts). p.symbols) own.is
 
     are_said : rules_of bytes head program parts.tags ≡ said
     are_said =
-        rw (← bare, rules_bare, ← own.count, ← own.strings_is, ← own.table_is, ← own.places, ← own.words_are, ← own.relocs, ← own.slots, ← say.pltgot) refl
+        rw (← symbols_are, ← own.count, ← own.strings_is, ← own.table_is, ← own.places, ← own.words_are, ← own.relocs, ← own.slots, ← say.pltgot) refl
 
     -- a rule that is broken has its number in the list of rules
     place_of : (rule number : ℕ) → TablesBreak bytes head program parts say rule number → (i : ℕ) × (rule ≡ 11 + i) × (slice_get said i ≡ Some (Some number))

@@ -28,7 +28,7 @@ use Rattle.elf_dynamic.specs.Again.{first_again}
 use Rattle.elf_dynamic.specs.Named.{doubleword, named_by, slot_ranges}
 use Rattle.elf_dynamic.specs.Relr.{begins_odd, relr_places, relr_words}
 use Rattle.elf_head.specs.DynTable.Symbol.{symbol_name}
-use Rattle.elf_dynamic.specs.Tables.{bare_in, count_in, dynamic_tags, parts_in, plt_relocs, rela_relocs, rela_span, relr_bytes, span_of, strings_in}
+use Rattle.elf_dynamic.specs.Tables.{count_in, dynamic_tags, parts_in, plt_relocs, rela_relocs, rela_span, relr_bytes, span_of, strings_in, symbols_of}
 use Rattle.elf_dynamic.specs.Tables.{symbol_bytes}
 use Rattle.elf_head.specs.DynTable.Tag.{value_of, has, has_flag}
 use Rattle.elf_head.specs.DynTable.Tag.{has_tag, last_of}
@@ -273,7 +273,7 @@ bad_slot bytes headers symbols others slots pltgot =
 abbrev pub other_ranges : List Symbol → List Reloc → List ℕ → List Span
 other_ranges symbols relocs places = map (named_by symbols) relocs ++ map doubleword places
 
--- the rules from 13 on, of symbols, relocations, slots and the words of packed relocations; no name of a symbol matters
+-- the rules from 13 on, of symbols, relocations, slots and the words of packed relocations
 abbrev pub rules_on : List ℕ → Head → Bool → List Tag → List Symbol → List Reloc → List Reloc → List ℕ → List (Option ℕ)
 rules_on bytes head program tags symbols relocs slots packed =
     bad_symbol head.headers symbols
@@ -287,7 +287,7 @@ abbrev pub rules_of : List ℕ → Head → Bool → List Tag → List (Option �
 rules_of bytes head program tags =
     bad_table head.headers tags (hash_words bytes head.headers tags) (count_in bytes head.headers tags)
     ∷ bad_string (strings_in bytes head.headers tags) tags (symbol_bytes bytes head.headers tags) (count_in bytes head.headers tags)
-    ∷ rules_on bytes head program tags (bare_in bytes head.headers tags) (rela_relocs bytes head.headers tags)
+    ∷ rules_on bytes head program tags (symbols_of bytes head.headers tags) (rela_relocs bytes head.headers tags)
     (plt_relocs bytes head.headers tags) (relr_bytes bytes head.headers tags)
 
 -- rule 10: no dynamic table, or none that ends

@@ -16,7 +16,7 @@ use Rattle.elf_head.specs.DynTable.HashWords.{hash_words}
 use Rattle.elf_head.specs.DynTable.Name.{string_in}
 use Rattle.elf_dynamic.specs.Relr.{relr_places}
 use Rattle.elf_head.specs.DynTable.Reloc.{relocs_of}
-use Rattle.elf_head.specs.DynTable.Symbol.{bare_symbols, symbols_in}
+use Rattle.elf_head.specs.DynTable.Symbol.{symbols_in}
 use Rattle.elf_head.specs.DynTable.Tag.{has, has_flag, last_of, tags_of, value_of, values_of}
 use Rattle.elf_head.specs.DynTable.TagNumbers.{dt_bind_now, dt_fini, dt_fini_array, dt_fini_arraysz, dt_flags, dt_flags_1, dt_init, dt_init_array, dt_init_arraysz}
 use Rattle.elf_head.specs.DynTable.TagNumbers.{dt_jmprel, dt_needed, dt_pltgot, dt_pltrelsz, dt_preinit_array, dt_preinit_arraysz, dt_rela, dt_relasz, dt_relr}
@@ -84,9 +84,9 @@ strings_in bytes headers tags = bytes_in bytes headers (span_of tags dt_strtab d
 unfoldable pub symbol_bytes : List ℕ → List Header → List Tag → List ℕ
 symbol_bytes bytes headers tags = unwrap_or (file_bytes bytes headers (value_of tags dt_symtab) (24 * count_in bytes headers tags)) []
 
--- the symbols without their names
-unfoldable pub bare_in : List ℕ → List Header → List Tag → List Symbol
-bare_in bytes headers tags = bare_symbols (symbol_bytes bytes headers tags) (count_in bytes headers tags)
+-- the symbols
+abbrev pub symbols_of : List ℕ → List Header → List Tag → List Symbol
+symbols_of bytes headers tags = symbols_in (symbol_bytes bytes headers tags) (strings_in bytes headers tags) (count_in bytes headers tags)
 
 -- DT_SYMBOLIC or DF_SYMBOLIC; DT_BIND_NOW, DF_BIND_NOW or DF_1_NOW; DF_1_NODELETE
 unfoldable pub flags_of : List Tag → ObjFlags
@@ -106,7 +106,7 @@ parts_in bytes headers tags = record {
   tags = tags;
   soname = option_map (string_in (strings_in bytes headers tags)) (last_of tags dt_soname);
   needed = map (string_in (strings_in bytes headers tags)) (values_of tags dt_needed);
-  symbols = symbols_in (symbol_bytes bytes headers tags) (strings_in bytes headers tags) (count_in bytes headers tags);
+  symbols = symbols_of bytes headers tags;
   first_exported = first_exported (hash_words bytes headers tags);
   relocs = rela_relocs bytes headers tags;
   plt_relocs = plt_relocs bytes headers tags;

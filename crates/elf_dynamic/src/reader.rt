@@ -2,7 +2,7 @@
 
 ghost use Rattle.std.specs.Prelude.{◌≡◌, ◌*◌, ◌<◌, ◌≤◌, ◌^◌, Ok, Err, IfOk, IsTrue, MatchResult, None, length, map, option_map};
 ghost use Rattle.elf_head.specs.AcceptancePart.Broken.{first_broken};
-ghost use Rattle.elf_head.specs.AcceptancePart.Gives.{Answers, Gives};
+ghost use Rattle.elf_head.specs.AcceptancePart.Gives.{Gives};
 ghost use Rattle.elf_head.specs.Readable.{readable};
 ghost use Rattle.elf_head.specs.Rules.{head_verdict};
 ghost use Rattle.ld_base.specs.declared.fault.ReadFault.TheVariants as faults;
@@ -11,16 +11,13 @@ ghost use Rattle.elf_dynamic.specs.Counted.{counted_in, rules_from_names};
 ghost use Rattle.elf_dynamic.specs.Judged.{broken_at, ArePlaces, FaultIs};
 ghost use Rattle.elf_dynamic.specs.Relr.{relr_places};
 ghost use Rattle.elf_dynamic.specs.Rules.{bad_table, dynamic_verdict, rules_on, tables_verdict};
-ghost use Rattle.elf_dynamic.specs.Verdict.{BreaksFirst, SpellsDynamic};
 ghost use Rattle.elf_head.specs.DynTable.HashWords.{hash_words};
 ghost use Rattle.elf_head.specs.DynTable.Name.{string_in};
-ghost use Rattle.elf_head.specs.DynTable.Symbol.{IsBare};
 ghost use Rattle.elf_head.specs.DynTable.Tag.{last_of, value_of, values_of};
 ghost use Rattle.elf_head.specs.DynTable.TagNumbers.{dt_needed, dt_soname, dt_symtab};
-ghost use Rattle.elf_dynamic.specs.Tables.{bare_in, count_in, parts_in, relr_bytes, symbol_bytes};
+ghost use Rattle.elf_dynamic.specs.Tables.{count_in, relr_bytes, strings_in, symbol_bytes, symbols_of};
 
 use crate::feature::{Both, refused_feature};
-use crate::law::one_verdict;
 use crate::reloc_rules::judge_relocs;
 use crate::relr::{Judged, MOST_PLACES};
 use crate::slot_rules::{Slots, bad_slot};
@@ -33,12 +30,11 @@ use crate::tables::{
 use elf_head::{
     DT_FINI, DT_FINI_ARRAY, DT_FINI_ARRAYSZ, DT_INIT, DT_INIT_ARRAY, DT_INIT_ARRAYSZ, DT_NEEDED,
     DT_PLTGOT, DT_PREINIT_ARRAY, DT_PREINIT_ARRAYSZ, DT_RELR, DT_RELRSZ, DT_SONAME, DT_STRSZ,
-    DT_STRTAB, DT_SYMTAB, SYMBOL_SIZE, SymbolTable, accepted_head, bare_symbols_lack_names,
-    file_bytes, last_of, read_hash_words, read_relocs, read_string, read_symbols, value_of,
-    values_of, with_name,
+    DT_STRTAB, DT_SYMTAB, SYMBOL_SIZE, accepted_head, file_bytes, file_part, last_of,
+    read_hash_words, read_relocs, read_string, read_symbols, value_of, values_of, with_name,
 };
 use ld_base::{
-    DynParts, Head, Header, Name, Names, NotAccepted, Places, ReadFault, Reloc, Relocs, Symbol,
+    DynParts, Head, Name, Names, NotAccepted, ReadFault, Reloc, Relocs, SharedBytes, Symbol,
     Symbols, Tag, Tags,
 };
 use std::alloc::{AllocError, Global};
@@ -108,26 +104,44 @@ fn symbol_part<'a>(bytes: &'a [u8], head: &Head, tags: &[Tag], count: u32) -> &'
     }
 }
 
+/// The string table, in the memory of the file.
+#[tactic(auto, unfolding(crate::specs::Tables::strings_in))]
+fn strings_in(file: &SharedBytes, head: &Head, tags: &[Tag]) -> Result<SharedBytes, AllocError>
+    requires { head_verdict file.now ≡ Ok head.now }
+    ensures { IfOk result (λ strings. strings ≡ strings_in file.now head.now.headers tags.now) }
+{
+    let Some(span) = span_of(tags, DT_STRTAB, DT_STRSZ) else {
+        return Ok(SharedBytes::new());
+    };
+    match file_part(file, head, span.start, span.size)? {
+        Some(part) => Ok(part),
+        None => Ok(SharedBytes::new()),
+    }
+}
+
 /// The names of the needed objects.
-fn needed_in(alloc: Global, strings: &[u8], tags: &[Tag]) -> Result<Names, AllocError>
+fn needed_in(alloc: Global, strings: &SharedBytes, tags: &[Tag]) -> Result<Names, AllocError>
     ensures { IfOk result (λ names. names ≡ map (string_in strings.now) (values_of tags.now dt_needed)) }
 {
     let mut names = Names::new(alloc);
     let mut name_bytes = 0;
     for offset in &values_of(alloc, tags, DT_NEEDED)? {
-        let name = read_string(alloc, strings, *offset)?;
+        let name = read_string(strings, *offset)?;
         name_bytes = with_name(name_bytes, &name)?;
         names.push(name)?;
     }
     Ok(names)
 }
 
-/// The object's own name.
-fn soname_in(alloc: Global, strings: &[u8], tags: &[Tag]) -> Result<Option<Name>, AllocError>
+/// The object's own name, in memory of its own: what is kept of an opening keeps it, and not the file.
+fn soname_in(alloc: Global, strings: &SharedBytes, tags: &[Tag]) -> Result<Option<Name>, AllocError>
     ensures { IfOk result (λ name. name ≡ option_map (string_in strings.now) (last_of tags.now dt_soname)) }
 {
     match last_of(tags, DT_SONAME) {
-        Some(offset) => Ok(Some(read_string(alloc, strings, offset)?)),
+        Some(offset) => {
+            let name = read_string(strings, offset)?;
+            Ok(Some(Name::new(alloc, name.as_bytes())?))
+        }
         None => Ok(None),
     }
 }
@@ -188,16 +202,29 @@ fn judge(alloc: Global, tables: Tables, program: bool) -> Result<Judged, ReadFau
     Ok(judged)
 }
 
-/// The tables of a file that break none of the rules 10 to 16, before their names are copied:
-/// contracts see the parts that they say.
+/// Asks that the names of symbols have no more bytes together than names may have.
+///
+/// # Errors
+///
+/// Want of memory, where they have more.
+fn bound_names(symbols: &[Symbol]) -> Result<(), AllocError> {
+    let mut name_bytes = 0;
+    for symbol in symbols {
+        name_bytes = with_name(name_bytes, &symbol.name)?;
+    }
+    Ok(())
+}
+
+/// The tables of a file that break none of the rules 10 to 16, before it is asked whether they have too many
+/// bytes of names or packed places: contracts see the parts that they say.
 #[derive(Drop)]
 pub struct JudgedParts<'a> {
     bytes: &'a [u8],
     head: &'a Head,
     tags: Tags,
     counted: Counted,
-    /// The symbols without their names.
-    bare: Symbols,
+    strings: SharedBytes,
+    symbols: Symbols,
     judged: Judged,
 }
 
@@ -210,7 +237,7 @@ impl<'a> Model for JudgedParts<'a> {
 
     ghost view = { λ p. parts_in p.bytes.now p.head.now.headers p.tags };
 
-    ghost invariant = { λ p. AreJudged p.bytes.now p.head.now p.tags p.counted p.bare p.judged };
+    ghost invariant = { λ p. AreJudged p.bytes.now p.head.now p.tags p.counted p.strings p.symbols p.judged };
 }
 
 impl<'a> JudgedParts<'a> {
@@ -230,54 +257,41 @@ impl<'a> JudgedParts<'a> {
         self.counted.first_exported
     }
 
-    /// The symbols.
-    #[tactic(auto, unfolding(crate::specs::Tables::parts_in, crate::specs::Tables::strings_in))]
-    pub fn symbols(&self) -> SymbolTable<'a>
-        ensures { result ≡ self.now.symbols }
+    /// The symbols, with version 0.
+    #[tactic(auto, unfolding(crate::specs::Tables::parts_in))]
+    pub fn symbols(&self) -> &Symbols
+        ensures { result.now ≡ self.now.symbols }
     {
-        let tags = self.tags.as_slice();
-        let strings = bytes_in(self.bytes, self.head, span_of(tags, DT_STRTAB, DT_STRSZ));
-        let part = symbol_part(self.bytes, self.head, tags, self.counted.count);
-        SymbolTable::new(part, strings, self.counted.count)
+        &self.symbols
     }
 
-    /// The symbols without their names, and with version 0.
-    #[tactic(auto, unfolding(crate::specs::Tables::parts_in, crate::specs::Tables::bare_in))]
-    pub fn bare(&self) -> &[Symbol]
-        ensures nameless { IsBare self.now.symbols result.now }
-        ensures few { length result.now < 2 ^ 32 }
-    {
-        bare_symbols_lack_names();
-        self.bare.as_slice()
-    }
-
-    /// The parts, with a copy of each name. More bytes of names, or places of packed relocations,
-    /// than are kept are want of memory.
+    /// The parts. More than 64 MiB of names, or more places of packed relocations than are kept, are want of
+    /// memory.
     ///
     /// # Errors
     ///
     /// Want of memory.
-    #[tactic(auto, unfolding(crate::specs::Tables::parts_in, crate::specs::Tables::strings_in))]
+    #[tactic(auto, unfolding(crate::specs::Tables::parts_in))]
     pub fn into_parts(self, alloc: Global) -> Result<DynParts, AllocError>
         ensures { IfOk result (λ parts. parts ≡ self.entry) }
     {
         if self.judged.count > MOST_PLACES as u64 {
             return Err(AllocError);
         }
-        let symbols = self.symbols().named(alloc)?;
+        bound_names(self.symbols.as_slice())?;
         let JudgedParts {
-            bytes,
-            head,
+            bytes: _,
+            head: _,
             tags,
             counted,
-            bare: _,
+            strings,
+            symbols,
             judged,
         } = self;
         let entries = tags.as_slice();
-        let strings = bytes_in(bytes, head, span_of(entries, DT_STRTAB, DT_STRSZ));
         Ok(DynParts {
-            soname: soname_in(alloc, strings, entries)?,
-            needed: needed_in(alloc, strings, entries)?,
+            soname: soname_in(alloc, &strings, entries)?,
+            needed: needed_in(alloc, &strings, entries)?,
             symbols,
             first_exported: counted.first_exported,
             relocs: counted.relocs,
@@ -295,9 +309,8 @@ impl<'a> JudgedParts<'a> {
     }
 }
 
-/// Judges what the tables with these entries say, of which none is bad (rules 12 to 16), and gives the symbols
-/// without their names.
-#[tactic(auto, unfolding(crate::specs::Tables::strings_in, crate::specs::Tables::bare_in), using(crate::proofs::Reading::short_parts))]
+/// Judges what the tables with these entries say, of which none is bad (rules 12 to 16), and gives the symbols.
+#[tactic(auto, unfolding(crate::specs::Tables::strings_in), using(crate::proofs::Reading::short_parts))]
 fn judge_tables(
     alloc: Global,
     bytes: &[u8],
@@ -305,23 +318,24 @@ fn judge_tables(
     program: bool,
     tags: &[Tag],
     counted: &Counted,
+    strings: &SharedBytes,
 ) -> Result<(Symbols, Judged), ReadFault>
     requires accepted { head_verdict bytes.now ≡ Ok head.now }
     requires readable { IsTrue (readable head.now.headers (value_of tags.now dt_symtab) (24 * counted.now.count)) }
     requires counted { counted.now ≡ counted_in bytes.now head.now.headers tags.now }
+    requires strings { strings.now ≡ strings_in bytes.now head.now.headers tags.now }
     ensures { MatchResult result
         (λ both. (first_broken 12 (rules_from_names bytes.now head.now program tags.now) ≡ None)
-        × (both.0 ≡ bare_in bytes.now head.now.headers tags.now)
+        × (both.0 ≡ symbols_of bytes.now head.now.headers tags.now)
         × ArePlaces both.1 (relr_places (relr_bytes bytes.now head.now.headers tags.now)))
         (λ fault. FaultIs (first_broken 12 (rules_from_names bytes.now head.now program tags.now)) fault) }
 {
     accepted_head();
-    let strings = bytes_in(bytes, head, span_of(tags, DT_STRTAB, DT_STRSZ));
     let part = symbol_part(bytes, head, tags, counted.count);
-    if let Some(offset) = bad_string(strings, tags, part, counted.count) {
+    if let Some(offset) = bad_string(strings.as_slice(), tags, part, counted.count) {
         return Err(broken(12, offset));
     }
-    let symbols = read_symbols(alloc, part, counted.count)?;
+    let symbols = read_symbols(alloc, part, strings, counted.count)?;
     let tables = Tables {
         bytes,
         head,
@@ -339,29 +353,40 @@ fn judge_tables(
 #[tactic(auto, unfolding(crate::specs::Rules::tables_verdict), using(crate::proofs::Reading::rest_fault, crate::proofs::Reading::table_fault))]
 fn judge_all<'a>(
     alloc: Global,
-    bytes: &'a [u8],
+    file: &'a SharedBytes,
     head: &'a Head,
     program: bool,
     tags: Tags,
 ) -> Result<JudgedParts<'a>, ReadFault>
-    requires { head_verdict bytes.now ≡ Ok head.now }
-    ensures { Gives result (tables_verdict bytes.now head.now program tags) }
+    requires { head_verdict file.now ≡ Ok head.now }
+    ensures { Gives result (tables_verdict file.now head.now program tags) }
 {
+    let bytes = file.as_slice();
     let counted = read_counted(alloc, bytes, head, tags.as_slice())?;
-    let (bare, judged) = judge_tables(alloc, bytes, head, program, tags.as_slice(), &counted)?;
+    let strings = strings_in(file, head, tags.as_slice())?;
+    let (symbols, judged) = judge_tables(
+        alloc,
+        bytes,
+        head,
+        program,
+        tags.as_slice(),
+        &counted,
+        &strings,
+    )?;
     Ok(JudgedParts {
         bytes,
         head,
         tags,
         counted,
-        bare,
+        strings,
+        symbols,
         judged,
     })
 }
 
 /// Judges the dynamic table of a file with this head, and the tables that it names, as those of the
-/// program or of another object. No name is copied: what bounds their memory comes later, so that a
-/// rule of another table may be broken first.
+/// program or of another object. What bounds memory comes later, so that a rule of another table may be
+/// broken first.
 ///
 /// # Errors
 ///
@@ -369,49 +394,15 @@ fn judge_all<'a>(
 #[tactic(auto, unfolding(crate::specs::Rules::dynamic_verdict))]
 pub fn judge_dynamic<'a>(
     alloc: Global,
-    bytes: &'a [u8],
+    file: &'a SharedBytes,
     head: &'a Head,
     program: bool,
 ) -> Result<JudgedParts<'a>, ReadFault>
-    requires { head_verdict bytes.now ≡ Ok head.now }
-    ensures { Gives result (dynamic_verdict bytes.now head.now program) }
+    requires { head_verdict file.now ≡ Ok head.now }
+    ensures { Gives result (dynamic_verdict file.now head.now program) }
 {
-    match dynamic_tags(alloc, bytes, head)? {
-        Some(tags) => judge_all(alloc, bytes, head, program, tags),
+    match dynamic_tags(alloc, file.as_slice(), head)? {
+        Some(tags) => judge_all(alloc, file, head, program, tags),
         None => Err(broken(10, 0)),
     }
-}
-
-/// The parts that the tables say, or the first rule that they break.
-fn read_judged(
-    alloc: Global,
-    bytes: &[u8],
-    head: &Head,
-    program: bool,
-) -> Result<DynParts, ReadFault>
-    requires { head_verdict bytes.now ≡ Ok head.now }
-    ensures { Gives result (dynamic_verdict bytes.now head.now program) }
-{
-    let judged = judge_dynamic(alloc, bytes, head, program)?;
-    Ok(judged.into_parts(alloc)?)
-}
-
-/// Reads the dynamic table of a file with this head, and the tables that it names, as those of the
-/// program or of another object.
-///
-/// # Errors
-///
-/// The first of the rules 10 to 16 that the tables break, with its number, or want of memory.
-pub fn read_dynamic(
-    alloc: Global,
-    bytes: &[u8],
-    head: &Head,
-    program: bool,
-) -> Result<DynParts, ReadFault>
-    requires { head_verdict bytes.now ≡ Ok head.now }
-    ensures answers { Answers (SpellsDynamic bytes.now head.now program) (BreaksFirst bytes.now head.now program) result }
-    ensures verdict { Gives result (dynamic_verdict bytes.now head.now program) }
-{
-    one_verdict();
-    read_judged(alloc, bytes, head, program)
 }

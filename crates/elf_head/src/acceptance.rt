@@ -1,4 +1,4 @@
-//! Definitions and lemmas that the readers of a file share: a crate without code.
+//! Definitions and lemmas that the readers of a file share: a module without code.
 //!
 //! - `specs/Broken` and `specs/First`: rules in order, each broken with a number or kept, and the
 //!   first that is broken; `proofs/Firsts`: the first of the list is the least that is broken.

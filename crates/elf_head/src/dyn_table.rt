@@ -5,11 +5,9 @@
 //!   [`has`] and [`has_flag`] tell.
 //! - [`string_at`] finds a string of a string table.
 //! - [`read_symbols`] and [`read_relocs`] give all entries of a table, each at its own place.
-//! - [`SymbolTable`] is a symbol table with its names, before these are copied.
 //! - [`read_hash_words`] gives the words of the hash tables.
 //!
-//! [`one_reading`] says by relations what the entries and a string are, and [`bare_symbols_lack_names`] what
-//! symbols are without their names.
+//! [`one_reading`] says by relations what the entries and a string are.
 mod hash_words;
 mod law;
 mod reloc;
@@ -18,10 +16,10 @@ mod symbol;
 mod tag;
 
 pub use hash_words::read_hash_words;
-pub use law::{bare_symbols_lack_names, one_reading};
+pub use law::one_reading;
 pub use reloc::{R_RISCV_JUMP_SLOT, RELOC_SIZE, read_relocs};
 pub use string::{MOST_NAME_BYTES, STRING_LIMIT, read_string, string_at, with_name};
-pub use symbol::{SYMBOL_SIZE, SymbolTable, read_symbols};
+pub use symbol::{SYMBOL_SIZE, read_symbols};
 pub use tag::{
     DT_BIND_NOW, DT_FINI, DT_FINI_ARRAY, DT_FINI_ARRAYSZ, DT_FLAGS, DT_FLAGS_1, DT_GNU_HASH,
     DT_HASH, DT_INIT, DT_INIT_ARRAY, DT_INIT_ARRAYSZ, DT_JMPREL, DT_NEEDED, DT_NULL, DT_PLTGOT,

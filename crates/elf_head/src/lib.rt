@@ -18,7 +18,8 @@
 //! 9. The file has at most 8 MiB.
 //!
 //! [`file_bytes`] gives the bytes of the file that stand for a range of addresses, where there are
-//! such ([`is_readable`]), and [`bytes_from`] those from an address to the end of its segment.
+//! such ([`is_readable`]), [`file_part`] the same in the file's memory, and [`bytes_from`] those from an
+//! address to the end of its segment.
 //!
 //! Beside the head stand what all readers of tables share, as definitions with their lemmas (`acceptance`), and
 //! the front of the dynamic table, its entries and the tables that they name, without a rule (`dyn_table`).
@@ -39,12 +40,11 @@ pub use dyn_table::{
     DT_PLTREL, DT_PLTRELSZ, DT_PREINIT_ARRAY, DT_PREINIT_ARRAYSZ, DT_REL, DT_RELA, DT_RELAENT,
     DT_RELASZ, DT_RELR, DT_RELRENT, DT_RELRSZ, DT_SONAME, DT_STRSZ, DT_STRTAB, DT_SYMBOLIC,
     DT_SYMENT, DT_SYMTAB, DT_TEXTREL, DT_VERDEF, DT_VERDEFNUM, DT_VERNEED, DT_VERNEEDNUM,
-    DT_VERSYM, MOST_NAME_BYTES, R_RISCV_JUMP_SLOT, RELOC_SIZE, STRING_LIMIT, SYMBOL_SIZE,
-    SymbolTable, bare_symbols_lack_names, count_of, has, has_flag, last_of, one_reading,
-    read_hash_words, read_relocs, read_string, read_symbols, read_tags, string_at, value_of,
-    values_of, with_name,
+    DT_VERSYM, MOST_NAME_BYTES, R_RISCV_JUMP_SLOT, RELOC_SIZE, STRING_LIMIT, SYMBOL_SIZE, count_of,
+    has, has_flag, last_of, one_reading, read_hash_words, read_relocs, read_string, read_symbols,
+    read_tags, string_at, value_of, values_of, with_name,
 };
 pub use program_headers::{PT_DYNAMIC, PT_GNU_RELRO, PT_LOAD, PT_TLS};
-pub use range::{bytes_from, file_bytes, is_readable};
+pub use range::{bytes_from, file_bytes, file_part, is_readable};
 pub use reader::read_head;
 pub use verdict::{accepted_head, one_verdict};

@@ -1,16 +1,34 @@
 //! The bytes of the file that stand for a range of addresses.
 
-ghost use Rattle.std.specs.Prelude.{◌≡◌, ◌+◌, ◌^◌, ◌<◌, ◌≤◌, Ok, IfSome, IsSome, IsTrue, ◌↔◌, find, length};
+ghost use Rattle.std.specs.Prelude.{◌≡◌, ◌+◌, ◌^◌, ◌<◌, ◌≤◌, Ok, IfOk, IfSome, IsSome, IsTrue, ◌↔◌, find, length};
 ghost use Rattle.std.specs.Option.{option_copied, option_map};
-ghost use Rattle.elf_head.specs.Readable.{bytes_from, covers, file_bytes, readable};
+ghost use Rattle.elf_head.specs.Readable.{bytes_from, covers, file_bytes, file_offset, readable};
 ghost use Rattle.elf_head.specs.Rules.{head_verdict};
 
 use crate::program_headers::PT_LOAD;
-use ld_base::{Head, Header};
+use ld_base::{Head, Header, SharedBytes};
+use std::alloc::AllocError;
+
+/// Where the file has the first of the bytes that stand for so many addresses from a start on. A range of no
+/// addresses has its bytes at the file's begin.
+#[tactic(auto, using(crate::proofs::Placing::found), unfolding(crate::specs::Readable::file_offset))]
+fn offset_of(bytes: &[u8], head: &Head, start: u64, size: u64) -> Option<usize>
+    requires { head_verdict bytes.now ≡ Ok head.now }
+    ensures value { result ≡ file_offset head.now.headers start size }
+    ensures held { IfSome result (λ at. at + size ≤ length bytes.now) }
+    ensures readable { IsSome result ↔ IsTrue (readable head.now.headers start size) }
+    ensures low { 0 < size → IsSome result → start + size ≤ 2 ^ 32 }
+{
+    if size == 0 {
+        return Some(0);
+    }
+    let header = covering(head.headers.as_slice(), start, size)?;
+    Some((header.offset + (start - header.vaddr)) as usize)
+}
 
 /// The bytes of the file that stand for so many addresses from a start on, where one mapped segment
 /// has them all. A range of no addresses has no bytes, wherever it starts.
-#[tactic(auto, using(crate::proofs::Placing::found), unfolding(crate::specs::Readable::file_bytes, crate::specs::Readable::file_offset))]
+#[tactic(auto, unfolding(crate::specs::Readable::file_bytes))]
 pub fn file_bytes<'a>(bytes: &'a [u8], head: &Head, start: u64, size: u64) -> Option<&'a [u8]>
     requires { head_verdict bytes.now ≡ Ok head.now }
     ensures found { option_map (λ part. part.now) result ≡ file_bytes bytes.now head.now.headers start size }
@@ -18,12 +36,29 @@ pub fn file_bytes<'a>(bytes: &'a [u8], head: &Head, start: u64, size: u64) -> Op
     ensures readable { IsSome result ↔ IsTrue (readable head.now.headers start size) }
     ensures low { 0 < size → IsSome result → start + size ≤ 2 ^ 32 }
 {
-    if size == 0 {
-        return Some(&bytes[..0]);
-    }
-    let header = covering(head.headers.as_slice(), start, size)?;
-    let at = (header.offset + (start - header.vaddr)) as usize;
+    let at = offset_of(bytes, head, start, size)?;
     Some(&bytes[at..at + size as usize])
+}
+
+/// The same bytes, in the memory of the file.
+///
+/// # Errors
+///
+/// Want of memory: so many owners of the file that they can't be counted.
+#[tactic(auto, unfolding(crate::specs::Readable::file_bytes))]
+pub fn file_part(
+    file: &SharedBytes,
+    head: &Head,
+    start: u64,
+    size: u64,
+) -> Result<Option<SharedBytes>, AllocError>
+    requires { head_verdict file.now ≡ Ok head.now }
+    ensures { IfOk result (λ part. part ≡ file_bytes file.now head.now.headers start size) }
+{
+    match offset_of(file.as_slice(), head, start, size) {
+        Some(at) => Ok(Some(file.slice(at..at + size as usize)?)),
+        None => Ok(None),
+    }
 }
 
 /// The bytes of the file from the one that stands for an address on, up to the last of its segment.

@@ -1,16 +1,17 @@
 -- The verdict on a file, and the relations that say what it means.
 use Rattle.std.proofs.Common.{◌≡◌, ◌⊎◌, ℕ, Bool, true, List, length, Some, Result, Ok, Err, refl, sym, ◌∙◌, ap, inl, inr}
-use Rattle.std.specs.Prelude.{IfOk}
+use Rattle.std.specs.Prelude.{IfOk, IsErrAnd}
 use Rattle.std.specs.List.{slice_get}
 use Rattle.ld_base.specs.declared.fault.NotAccepted.{NotAccepted}
 use Rattle.ld_base.specs.declared.fault.ReadFault.{ReadFault}
+use Rattle.ld_base.specs.declared.fault.ReadFault.TheVariants as faults
 use Rattle.ld_base.specs.declared.object.Object.{Object}
 use Rattle.ld_base.specs.declared.object.Symbol.{Symbol}
 use Rattle.ld_base.specs.declared.parts.DynParts.{DynParts}
 use Rattle.ld_base.specs.declared.parts.HashTable.{HashTable}
 use Rattle.ld_base.specs.declared.parts.Head.{Head}
 use Rattle.ld_base.specs.declared.parts.Versions.{Versions}
-use Rattle.elf_head.specs.AcceptancePart.Gives.{Gives}
+use Rattle.elf_head.specs.AcceptancePart.Gives.{Faults, Gives}
 use Rattle.elf_head.specs.Rules.{head_verdict}
 use Rattle.elf_head.specs.Verdict.{SpellsHead, BreaksFirst as HeadBreaks}
 use Rattle.elf_head.specs.AcceptancePart.Lemmas.Reading.{ok_is}
@@ -35,6 +36,20 @@ pub given_table : (meant : Result (Object × HashTable) NotAccepted) (result : R
     → ((object : Object) (table : HashTable) → meant ≡ Ok (object, table) → IsTableOf table object) → Gives result meant → IfOk result (λ read. IsTableOf read.1 read.0)
 given_table meant (Ok (object, table)) own given = own object table given
 given_table meant (Err fault) own given = tt
+
+-- the rule of the hash tables, where the parts before them break none
+pub faulty_table : (bytes : List ℕ) (program : Bool) (head : Head) (parts : DynParts) (versions : Versions) (fault : ReadFault) → head_verdict bytes ≡ Ok head
+    → dynamic_verdict bytes head program ≡ Ok parts → versions_verdict bytes head parts ≡ Ok versions → Faults fault (hash_verdict bytes head parts)
+    → Faults fault (object_verdict bytes program)
+unfolding object_verdict
+faulty_table bytes program head parts versions (faults.NotAccepted broken) one two three four = rw (one, two, three, four) refl
+faulty_table bytes program head parts versions faults.Memory one two three four = tt
+
+-- a fault that is handed on
+pub handed_on : {X : Type 0} (result : Result X ReadFault) (fault : ReadFault) (meant : Result X NotAccepted) → IsErrAnd result (λ e. e ≡ fault) → Faults fault meant
+    → Gives result meant
+handed_on (Ok x) fault meant same given = absurd same
+handed_on (Err e) fault meant same given = rw same given
 
 -- what the readers below promise
 pub record Readings : Type 0 where

@@ -6,7 +6,7 @@ ghost use Rattle.elf_head.specs.Rules.{head_verdict};
 ghost use Rattle.elf_object.specs.Segments.{dynamic_of, relro_of, segment_at, segments_of, tls_of};
 
 use elf_head::{PT_DYNAMIC, PT_GNU_RELRO, PT_LOAD, PT_TLS, accepted_head};
-use ld_base::{Bytes, Head, Header, Segment, Segments, Span, TlsSeg};
+use ld_base::{Head, Header, Segment, Segments, SharedBytes, Span, TlsSeg};
 use std::alloc::{AllocError, Global};
 
 /// Whether the header's segment is mapped.
@@ -16,38 +16,39 @@ fn is_loaded(header: &Header) -> bool
     header.kind == PT_LOAD && header.memsz > 0
 }
 
-/// The segment of a header, with its bytes of the file.
+/// The segment of a header, with its bytes in the memory of the file.
 #[tactic(auto, unfolding(crate::specs::Segments::segment_at))]
-fn segment_at(alloc: Global, bytes: &[u8], header: &Header) -> Result<Segment, AllocError>
-    requires { 0 < header.now.filesz → header.now.offset + header.now.filesz ≤ length bytes.now }
-    ensures { IfOk result (λ segment. segment ≡ segment_at bytes.now header.now) }
+fn segment_at(file: &SharedBytes, header: &Header) -> Result<Segment, AllocError>
+    requires { 0 < header.now.filesz → header.now.offset + header.now.filesz ≤ length file.now }
+    ensures { IfOk result (λ segment. segment ≡ segment_at file.now header.now) }
 {
+    // A file has fewer than 2^63 bytes, so that the end of the range is an index.
+    let _size = file.len();
     let bytes = if header.filesz == 0 {
-        &[]
+        SharedBytes::new()
     } else {
-        &bytes[header.offset as usize..(header.offset + header.filesz) as usize]
+        file.slice(header.offset as usize..(header.offset + header.filesz) as usize)?
     };
     Ok(Segment {
         vaddr: header.vaddr,
         memsz: header.memsz,
         flags: header.flags,
         align: header.align,
-        bytes: Bytes::from_slice(alloc, bytes)?,
+        bytes,
     })
 }
 
 /// Puts the header's segment at the end, if it is mapped.
 fn push_segment(
-    alloc: Global,
     segments: &mut Segments,
-    bytes: &[u8],
+    file: &SharedBytes,
     header: &Header,
 ) -> Result<(), AllocError>
-    requires { IsTrue (is_loaded header.now) → 0 < header.now.filesz → header.now.offset + header.now.filesz ≤ length bytes.now }
-    ensures { OnOk result (segments.new ≡ segments.old ++ (if is_loaded header.now then segment_at bytes.now header.now ∷ [] else [])) }
+    requires { IsTrue (is_loaded header.now) → 0 < header.now.filesz → header.now.offset + header.now.filesz ≤ length file.now }
+    ensures { OnOk result (segments.new ≡ segments.old ++ (if is_loaded header.now then segment_at file.now header.now ∷ [] else [])) }
 {
     if is_loaded(header) {
-        segments.push(segment_at(alloc, bytes, header)?)?;
+        segments.push(segment_at(file, header)?)?;
     }
     Ok(())
 }
@@ -56,16 +57,16 @@ fn push_segment(
 #[tactic(auto, unfolding(crate::specs::Segments::segments_of))]
 pub(crate) fn read_segments(
     alloc: Global,
-    bytes: &[u8],
+    file: &SharedBytes,
     head: &Head,
 ) -> Result<Segments, AllocError>
-    requires { head_verdict bytes.now ≡ Ok head.now }
-    ensures { IfOk result (λ segments. segments ≡ segments_of bytes.now head.now.headers) }
+    requires { head_verdict file.now ≡ Ok head.now }
+    ensures { IfOk result (λ segments. segments ≡ segments_of file.now head.now.headers) }
 {
     accepted_head();
     let mut segments = Segments::new(alloc);
     for header in head.headers.as_slice() {
-        push_segment(alloc, &mut segments, bytes, header)?;
+        push_segment(&mut segments, file, header)?;
     }
     Ok(segments)
 }

@@ -1,58 +1,57 @@
 //! Reading the versions of an object.
 
-ghost use Rattle.std.specs.Prelude.{◌≡◌, Ok};
-ghost use Rattle.elf_head.specs.AcceptancePart.Gives.{Answers, Gives};
+ghost use Rattle.std.specs.Prelude.{◌≡◌, Ok, IfOk};
+ghost use Rattle.elf_head.specs.AcceptancePart.Gives.{Gives};
 ghost use Rattle.elf_head.specs.Rules.{head_verdict};
-ghost use Rattle.elf_versions.specs.Spells.{BreaksFirst, SpellsVersions};
-ghost use Rattle.elf_versions.specs.Verdict.{strings_of, tables_of, versions_in, versions_verdict};
+ghost use Rattle.elf_versions.specs.Verdict.{strings_of, tables_of, versions_in};
 
 use crate::index::unknown_index;
 use crate::judged::JudgedVersions;
-use crate::law::one_verdict;
 use crate::records::Records;
 use crate::verdef::read_verdefs;
 use crate::verneed::read_verneeds;
 use crate::versym::read_versym;
 use elf_head::{
-    DT_STRSZ, DT_STRTAB, DT_VERDEF, DT_VERNEED, DT_VERSYM, file_bytes, last_of, value_of,
+    DT_STRSZ, DT_STRTAB, DT_VERDEF, DT_VERNEED, DT_VERSYM, file_part, last_of, value_of,
 };
-use ld_base::{DynParts, Head, NotAccepted, ReadFault, Tag, Versions};
-use std::alloc::Global;
+use ld_base::{Head, NotAccepted, ReadFault, SharedBytes, Tag};
+use std::alloc::{AllocError, Global};
 
-/// The string table.
+/// The string table, in the memory of the file.
 #[tactic(auto, unfolding(crate::specs::Verdict::strings_of))]
-fn strings_of<'a>(bytes: &'a [u8], head: &Head, tags: &[Tag]) -> &'a [u8]
-    requires { head_verdict bytes.now ≡ Ok head.now }
-    ensures { result.now ≡ strings_of bytes.now head.now.headers tags.now }
+fn strings_of(file: &SharedBytes, head: &Head, tags: &[Tag]) -> Result<SharedBytes, AllocError>
+    requires { head_verdict file.now ≡ Ok head.now }
+    ensures { IfOk result (λ strings. strings ≡ strings_of file.now head.now.headers tags.now) }
 {
     let start = value_of(tags, DT_STRTAB);
-    match file_bytes(bytes, head, start, value_of(tags, DT_STRSZ)) {
-        Some(strings) => strings,
-        None => &[],
+    match file_part(file, head, start, value_of(tags, DT_STRSZ))? {
+        Some(strings) => Ok(strings),
+        None => Ok(SharedBytes::new()),
     }
 }
 
 /// What the tables say, for so many symbols (rule 17).
 #[tactic(auto, unfolding(crate::specs::Verdict::tables_of))]
-fn read_tables<'a>(
+fn read_tables(
     alloc: Global,
-    bytes: &'a [u8],
+    file: &SharedBytes,
     head: &Head,
     tags: &[Tag],
     count: u32,
-) -> Result<JudgedVersions<'a>, ReadFault>
-    requires { head_verdict bytes.now ≡ Ok head.now }
-    ensures { Gives result (tables_of bytes.now head.now.headers tags.now count) }
+) -> Result<JudgedVersions, ReadFault>
+    requires { head_verdict file.now ≡ Ok head.now }
+    ensures { Gives result (tables_of file.now head.now.headers tags.now count) }
 {
-    let strings = strings_of(bytes, head, tags);
+    let strings = strings_of(file, head, tags)?;
+    let (bytes, names) = (file.as_slice(), strings.as_slice());
     let versym = read_versym(
         alloc,
-        &Records::new(bytes, head, strings, DT_VERSYM),
+        &Records::new(bytes, head, names, DT_VERSYM),
         tags,
         count,
     )?;
-    let verdefs = read_verdefs(alloc, &Records::new(bytes, head, strings, DT_VERDEF), tags)?;
-    let verneeds = read_verneeds(alloc, &Records::new(bytes, head, strings, DT_VERNEED), tags)?;
+    let verdefs = read_verdefs(alloc, &Records::new(bytes, head, names, DT_VERDEF), tags)?;
+    let verneeds = read_verneeds(alloc, &Records::new(bytes, head, names, DT_VERNEED), tags)?;
     Ok(JudgedVersions {
         strings,
         has_versym: last_of(tags, DT_VERSYM).is_some(),
@@ -62,25 +61,24 @@ fn read_tables<'a>(
     })
 }
 
-/// Judges the version tables that these entries of the dynamic table name, for so many symbols. No
-/// name is copied: what bounds their memory comes later, so that a rule of another table may be
-/// broken first.
+/// Judges the version tables that these entries of the dynamic table name, for so many symbols. What
+/// bounds memory comes later, so that a rule of another table may be broken first.
 ///
 /// # Errors
 ///
 /// The first of the rules 17 and 18 that the tables break, with its number, or want of memory.
 #[tactic(auto, unfolding(crate::specs::Verdict::versions_in, crate::specs::Verdict::with_indexes))]
-pub fn judge_versions<'a>(
+pub fn judge_versions(
     alloc: Global,
-    bytes: &'a [u8],
+    file: &SharedBytes,
     head: &Head,
     tags: &[Tag],
     count: u32,
-) -> Result<JudgedVersions<'a>, ReadFault>
-    requires { head_verdict bytes.now ≡ Ok head.now }
-    ensures { Gives result (versions_in bytes.now head.now.headers tags.now count) }
+) -> Result<JudgedVersions, ReadFault>
+    requires { head_verdict file.now ≡ Ok head.now }
+    ensures { Gives result (versions_in file.now head.now.headers tags.now count) }
 {
-    let versions = read_tables(alloc, bytes, head, tags, count)?;
+    let versions = read_tables(alloc, file, head, tags, count)?;
     match unknown_index(alloc, &versions)? {
         Some(symbol) => Err(ReadFault::NotAccepted(NotAccepted {
             rule: 18,
@@ -88,39 +86,4 @@ pub fn judge_versions<'a>(
         })),
         None => Ok(versions),
     }
-}
-
-/// Reads the versions that an object defines, those that it needs, and the version index of each of
-/// its symbols. Its parts are those that `read_dynamic` answers for these bytes.
-///
-/// # Errors
-///
-/// The first of the rules 17 and 18 that the tables break, with its number, or want of memory.
-pub fn read_versions(
-    alloc: Global,
-    bytes: &[u8],
-    head: &Head,
-    parts: &DynParts,
-) -> Result<Versions, ReadFault>
-    requires { head_verdict bytes.now ≡ Ok head.now }
-    ensures answers { Answers (SpellsVersions bytes.now head.now parts.now) (BreaksFirst bytes.now head.now parts.now) result }
-    ensures verdict { Gives result (versions_verdict bytes.now head.now parts.now) }
-{
-    one_verdict();
-    read_judged(alloc, bytes, head, parts)
-}
-
-/// Judges the tables, and copies their names.
-fn read_judged(
-    alloc: Global,
-    bytes: &[u8],
-    head: &Head,
-    parts: &DynParts,
-) -> Result<Versions, ReadFault>
-    requires { head_verdict bytes.now ≡ Ok head.now }
-    ensures { Gives result (versions_verdict bytes.now head.now parts.now) }
-{
-    let tags = parts.tags.as_slice();
-    let versions = judge_versions(alloc, bytes, head, tags, parts.symbols.len())?;
-    Ok(versions.into_versions(alloc)?)
 }

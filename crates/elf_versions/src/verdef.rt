@@ -9,7 +9,7 @@ ghost use Rattle.elf_versions.specs.Verdef.{is_verdef, verdef_at, verdefs_from, 
 
 use crate::records::{MAX_RECORDS, Records};
 use elf_head::{DT_VERDEF, DT_VERDEFNUM, last_of, read_string, value_of, with_name};
-use ld_base::{ReadFault, Tag, Verdef, Verdefs, field16, field32};
+use ld_base::{ReadFault, SharedBytes, Tag, Verdef, Verdefs, field16, field32};
 use std::alloc::{AllocError, Global};
 
 /// The bytes of a Verdef and of a Verdaux.
@@ -93,10 +93,10 @@ pub(crate) fn read_verdefs(
     verdefs_from(alloc, records, start, count)
 }
 
-/// The versions with their names. More bytes of names than are kept are want of memory.
+/// The versions with their names, in the memory of the file. More than 64 MiB of names are want of memory.
 pub(crate) fn named_verdefs(
     alloc: Global,
-    strings: &[u8],
+    strings: &SharedBytes,
     records: &[VerdefRecord],
 ) -> Result<Verdefs, AllocError>
     ensures { IfOk result (λ verdefs. verdefs ≡ map (defined strings.now) records.now) }
@@ -104,7 +104,7 @@ pub(crate) fn named_verdefs(
     let mut verdefs = Verdefs::new(alloc);
     let mut name_bytes = 0;
     for record in records {
-        let name = read_string(alloc, strings, record.name.into())?;
+        let name = read_string(strings, record.name.into())?;
         name_bytes = with_name(name_bytes, &name)?;
         verdefs.push(Verdef {
             index: record.index,

@@ -10,7 +10,7 @@ ghost use Rattle.elf_versions.specs.Verneed.{is_verneed, need_at, needs_from, ve
 
 use crate::records::{MAX_RECORDS, Records};
 use elf_head::{DT_VERNEED, DT_VERNEEDNUM, last_of, read_string, value_of, with_name};
-use ld_base::{ReadFault, Tag, Verneed, Verneeds, field16, field32};
+use ld_base::{ReadFault, SharedBytes, Tag, Verneed, Verneeds, field16, field32};
 use std::alloc::{AllocError, Global};
 
 /// The bytes of a Verneed, and those of a Vernaux.
@@ -180,11 +180,11 @@ pub(crate) fn read_verneeds(
     versions_of_all(alloc, records, &needs)
 }
 
-/// The versions with their names and those of their files. More bytes of names than are kept are
-/// want of memory.
+/// The versions with their names and those of their files, in the memory of the file. More than 64 MiB of
+/// names are want of memory.
 pub(crate) fn named_verneeds(
     alloc: Global,
-    strings: &[u8],
+    strings: &SharedBytes,
     records: &[VerneedRecord],
 ) -> Result<Verneeds, AllocError>
     ensures { IfOk result (λ verneeds. verneeds ≡ map (needed strings.now) records.now) }
@@ -192,8 +192,8 @@ pub(crate) fn named_verneeds(
     let mut verneeds = Verneeds::new(alloc);
     let mut name_bytes = 0;
     for record in records {
-        let file = read_string(alloc, strings, record.file.into())?;
-        let name = read_string(alloc, strings, record.name.into())?;
+        let file = read_string(strings, record.file.into())?;
+        let name = read_string(strings, record.name.into())?;
         name_bytes = with_name(with_name(name_bytes, &file)?, &name)?;
         verneeds.push(Verneed {
             index: record.index,

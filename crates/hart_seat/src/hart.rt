@@ -72,7 +72,7 @@ impl LinkedHart {
             phase: Phase::AtPc,
             bytes: PassedBytes::new(),
             version: PassedBytes::new(),
-            message: Name::from(Vec::new(alloc)),
+            message: Name::empty(),
             resolving: Resolving::Idle,
             frames: Vec::new(alloc),
             fuel,

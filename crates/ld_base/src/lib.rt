@@ -17,6 +17,9 @@ mod shared_list;
 mod symbols;
 mod text;
 
+/// Bytes that no longer change: those that an owner sees may be a part of what others see, in one memory, which is
+/// freed with the last of them.
+pub use bytes::Bytes as SharedBytes;
 pub use carriers::Carriers;
 pub use fault::{AsmCause, DlFault, NotAccepted, ReadFault, Shown};
 pub use field::{field16, field32, field64};

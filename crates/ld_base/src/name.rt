@@ -1,15 +1,17 @@
 //! Names: of objects, of symbols and of versions.
 
-ghost use Rattle.std.specs.Prelude.{◌≡◌, IfOk};
+ghost use Rattle.std.specs.Prelude.{◌≡◌, [], IfOk};
 ghost use Rattle.std.specs.Str.{bytes_eq};
 
+use crate::SharedBytes;
 use std::alloc::{AllocError, Global};
 use std::marker::Model;
 
-/// A name, which is a list of bytes: a string of an object file needn't be text.
+/// A name, which is a list of bytes: a string of an object file needn't be text. It may have its bytes in the
+/// memory of the file in which it stands.
 #[derive(Debug, Drop)]
 pub struct Name {
-    bytes: Vec<u8>,
+    bytes: SharedBytes,
 }
 
 impl Model for Name {
@@ -17,11 +19,20 @@ impl Model for Name {
 
     ghost Value = { List ℕ };
 
-    ghost view = { λ n. n.bytes.items };
+    ghost view = { λ n. n.bytes };
 }
 
 impl Name {
-    /// The name with these bytes.
+    /// The name of no bytes, which takes no memory.
+    pub fn empty() -> Self
+        ensures { result ≡ [] }
+    {
+        Name {
+            bytes: SharedBytes::new(),
+        }
+    }
+
+    /// The name with these bytes, in memory of its own.
     ///
     /// # Errors
     ///
@@ -29,7 +40,19 @@ impl Name {
     pub fn new(alloc: Global, bytes: &[u8]) -> Result<Self, AllocError>
         ensures { IfOk result (λ n. n ≡ bytes.now) }
     {
-        let bytes = Vec::from_slice(alloc, bytes)?;
+        let bytes = SharedBytes::copy_from_slice(alloc, bytes)?;
+        Ok(Name { bytes })
+    }
+
+    /// The name with the bytes of a vector, which are kept where they are.
+    ///
+    /// # Errors
+    ///
+    /// Want of memory.
+    pub fn from_vec(bytes: Vec<u8>) -> Result<Self, AllocError>
+        ensures { IfOk result (λ n. n ≡ bytes.items) }
+    {
+        let bytes = SharedBytes::from_vec(bytes)?;
         Ok(Name { bytes })
     }
 
@@ -48,10 +71,10 @@ impl Name {
     }
 }
 
-impl From<Vec<u8>> for Name {
-    ghost from_gives = { λ v n. n ≡ v.items };
+impl From<SharedBytes> for Name {
+    ghost from_gives = { λ bytes name. name ≡ bytes };
 
-    fn from(bytes: Vec<u8>) -> Self {
+    fn from(bytes: SharedBytes) -> Self {
         Name { bytes }
     }
 }

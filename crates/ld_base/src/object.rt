@@ -1,6 +1,6 @@
 //! What a linked object holds, as its reader gives it.
 
-use crate::{Bytes, Name, Sequence, SharedList, SharedSymbols};
+use crate::{Name, Sequence, SharedBytes, SharedList, SharedSymbols};
 
 /// Whether an object stands at its own addresses (ET_EXEC) or anywhere (ET_DYN).
 #[derive(Clone, Copy, PartialEq, Eq)]
@@ -36,27 +36,27 @@ pub struct ObjFlags {
     pub nodelete: bool,
 }
 
-/// A segment that is mapped (PT_LOAD), with its bytes of the file.
+/// A segment that is mapped (PT_LOAD), with its bytes of the file, which it may share with the file.
 #[derive(Drop)]
 pub struct Segment {
     pub vaddr: u64,
     pub memsz: u64,
     pub flags: u32,
     pub align: u64,
-    pub bytes: Bytes,
+    pub bytes: SharedBytes,
 }
 
 /// An entry of the symbol table, with its name and its version's index.
 #[derive(Drop)]
 pub struct Symbol {
     pub name: Name,
-    pub info: u8,
-    pub other: u8,
-    pub shndx: u16,
     pub value: u64,
     pub size: u64,
+    pub shndx: u16,
     /// The entry of the versym table, its hidden bit 0x8000 too; 0 where there is no such table.
     pub version: u16,
+    pub info: u8,
+    pub other: u8,
 }
 
 /// A relocation with its addend.

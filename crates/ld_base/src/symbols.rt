@@ -84,6 +84,16 @@ impl Symbols {
         self.items.push(symbol)
     }
 
+    /// The symbols of a vector.
+    pub fn from_vec(items: Vec<Symbol>) -> Self
+        requires { length items.items < 2 ^ 32 }
+        ensures { result ≡ items.items }
+    {
+        Symbols {
+            items: Sequence::from(items),
+        }
+    }
+
     /// The symbols as a vector.
     pub fn into_vec(self) -> Vec<Symbol>
         ensures value { result.items ≡ self }

@@ -10,16 +10,17 @@ use crate::answer::{Answer, done, refused};
 use cli_text::dump_text;
 use cli_words::Command;
 use elf_object::read_object;
-use ld_base::{DlFault, Name, ReadFault};
+use ld_base::{DlFault, Name, ReadFault, SharedBytes};
 use library_source::{Library, ReadError};
 use std::alloc::{AllocError, Global};
 
 /// The answer of a file with these bytes, which are read as a program's.
-fn of_bytes(alloc: Global, path: Name, bytes: &[u8]) -> Result<Answer, AllocError>
-    ensures end { IfOk result (λ answer. answer.end ≡ bare (dump_cause path (program_read (Some bytes.now)))) }
-    ensures text { IfOk result (λ answer. answer.text ≡ reading_text path (program_read (Some bytes.now))) }
+fn of_bytes(alloc: Global, path: Name, bytes: Vec<u8>) -> Result<Answer, AllocError>
+    ensures end { IfOk result (λ answer. answer.end ≡ bare (dump_cause path (program_read (Some bytes.items)))) }
+    ensures text { IfOk result (λ answer. answer.text ≡ reading_text path (program_read (Some bytes.items))) }
 {
-    match read_object(alloc, bytes, true) {
+    let file = SharedBytes::from_vec(bytes)?;
+    match read_object(alloc, &file, true) {
         Ok((object, _table)) => Ok(done(dump_text(alloc, &object)?)),
         Err(ReadFault::NotAccepted(broken)) => {
             refused(alloc, DlFault::NotAccepted(path, broken))
@@ -43,7 +44,7 @@ pub(crate) fn dump<L: Library>(
     ensures misses { L.misses library.old ≤ L.misses library.new }
 {
     match library.read(path.as_bytes()) {
-        Ok(bytes) => of_bytes(alloc, path, bytes.as_slice()),
+        Ok(bytes) => of_bytes(alloc, path, bytes),
         Err(ReadError::Missing) => refused(alloc, DlFault::MissingLibrary(path)),
         Err(ReadError::Failed) => refused(alloc, DlFault::ReadFault(path)),
         Err(ReadError::Memory) => Err(AllocError),

@@ -4,7 +4,7 @@ ghost use Rattle.std.specs.Prelude.{◌≡◌, All, IfOk, map};
 ghost use Rattle.ldso_view.specs.Spelled.{IsFound, IsFoundFrom, path_in, unknown};
 
 use elf_object::read_object;
-use ld_base::{Name, Object, ReadFault};
+use ld_base::{Name, Object, ReadFault, SharedBytes};
 use library_source::{Library, ReadError};
 use std::alloc::{AllocError, Global};
 use trace_view::{Member, Members};
@@ -34,12 +34,12 @@ fn object_at<L: Library>(
     ensures found { IfOk result (IsFound (L.files library.old) path.now program) }
     ensures files { L.files library.new ≡ L.files library.old }
 {
-    let bytes = match library.read(path) {
-        Ok(bytes) => bytes,
+    let file = match library.read(path) {
+        Ok(bytes) => SharedBytes::from_vec(bytes)?,
         Err(ReadError::Missing | ReadError::Failed) => return Ok(None),
         Err(ReadError::Memory) => return Err(AllocError),
     };
-    match read_object(alloc, bytes.as_slice(), program) {
+    match read_object(alloc, &file, program) {
         Ok((object, _table)) => Ok(Some(object)),
         Err(ReadFault::NotAccepted(_)) => Ok(None),
         Err(ReadFault::Memory) => Err(AllocError),

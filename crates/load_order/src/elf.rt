@@ -1,7 +1,7 @@
 //! The format of the files that are loaded.
 
 use elf_object::read_object;
-use ld_base::{HashTable, Object, ReadFault};
+use ld_base::{HashTable, Object, ReadFault, SharedBytes};
 use load_walk::Format;
 use std::alloc::Global;
 
@@ -17,9 +17,9 @@ impl Format for Elf {
     fn read(
         &self,
         alloc: Global,
-        bytes: &[u8],
+        file: &SharedBytes,
         program: bool,
     ) -> Result<(Object, HashTable), ReadFault> {
-        read_object(alloc, bytes, program)
+        read_object(alloc, file, program)
     }
 }

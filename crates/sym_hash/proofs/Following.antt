@@ -1,7 +1,7 @@
 -- The links of a System V table, as they are followed, many at once, and as a relation.
 use Rattle.std.proofs.Common.{◌≡◌, ◌≢◌, ◌∙◌, sym, ap, ℕ, zero, suc, ◌+◌, ◌-◌, ◌*◌, ◌/◌, ◌%◌, ◌^◌, ◌<◌, ◌≤◌, ◌==◌, min, Bool, false, List, length, map, refl}
 use Rattle.std.proofs.Common.{arith, inl, inr, add-one, zero-add, Decides, Contains, Option, Some, None, slice_get, slice_index, true, get_or, ◌&&◌, not}
-use Rattle.std.proofs.Common.{nat_le, option_map}
+use Rattle.std.proofs.Common.{nat_le}
 use Rattle.std.specs.Prelude.{unwrap_or}
 use Rattle.std.specs.List.{list_all}
 use Rattle.std.proofs.Math.Nat.{two-pow-succ}
@@ -10,7 +10,7 @@ use Rattle.std.proofs.Math.Pow.{pow_mono, pow_pos}
 use Rattle.std.proofs.lemmas.Bool.{cases_Bool, cases_eq, cases_lt, eq-eqb, le-ltb, ne_eqb}
 use Rattle.std.proofs.lemmas.Bool.Decides.{Decides-eqb, Decides-ltb}
 use Rattle.std.proofs.lemmas.List.{length-map}
-use Rattle.std.proofs.lemmas.Option.{get_or_from_slice_get, slice_get-get_or, slice_get-map, slice_get_cases, slice_get_past, slice_get_read, slice_get_within}
+use Rattle.std.proofs.lemmas.Option.{get_or_from_slice_get, slice_get-get_or, slice_get-map, slice_get_past, slice_get_read, slice_get_within}
 use Rattle.std.proofs.lemmas.Simd.{map-map}
 use lib.Arith.{mod-mul}
 use Rattle.ld_base.specs.Symbol.{is_visible_definition}
@@ -18,9 +18,7 @@ use Rattle.ld_base.specs.declared.object.Symbol.{Symbol}
 use Rattle.ld_base.specs.declared.parts.SysvPart.{SysvPart}
 use Rattle.elf_head.specs.AcceptancePart.Least.{least_below}
 use Rattle.elf_head.specs.AcceptancePart.Lemmas.Leasts.{least_found, least_kept}
-use Rattle.elf_head.specs.AcceptancePart.Lemmas.Tables.{same_elements}
 use Rattle.elf_head.specs.AcceptancePart.Lemmas.Tests.{both, contrary, means}
-use Rattle.elf_head.specs.DynTable.Symbol.{IsBare}
 use Rattle.sym_hash.specs.Follow.{AreTrips, arrives, carried, follow, followed, leads_on, start_to, step, then_trip, trip, trip_from}
 use Rattle.sym_hash.specs.Hash.{sysv_hash}
 use Rattle.sym_hash.specs.Hashed.{first_lost, is_lost}
@@ -208,21 +206,6 @@ module _ (found : ℕ → Bool) (symbols : List Symbol) (first i : ℕ) (s : Sym
 same_least : (p q : ℕ → Bool) (n : ℕ) → ((i : ℕ) → i < n → p i ≡ q i) → least_below p n ≡ least_below q n
 same_least p q zero same = refl
 same_least p q (suc n) same = rw (same_least p q n (λ i below. same i (omega arith)), same n (omega arith)) refl
-
--- a list of what each element of another gives
-pub map_is : {X Y : Type 0} (f : X → Y) (xs : List X) (ys : List Y) → length ys ≡ length xs
-    → ((i : ℕ) (x : X) → slice_get xs i ≡ Some x → slice_get ys i ≡ Some (f x)) → ys ≡ map f xs
-map_is f xs ys len each =
-    same_elements ys (map f xs) (len ∙ sym (length-map xs f)) (λ i within. elim (slice_get_cases xs i).1 [
-      | inl (x, below, at, is) ↦ each i x at ∙ sym (slice_get-map f xs i ∙ ap (option_map f) at)
-      | inr (past, none) ↦ absurd (omega (arith, length-map xs f))
-    ])
-
--- symbols without names
-pub bare_visible : (symbols bare : List Symbol) → IsBare symbols bare → map is_visible_definition bare ≡ map is_visible_definition symbols
-bare_visible symbols bare is =
-    map_is is_visible_definition symbols (map is_visible_definition bare) (length-map bare is_visible_definition ∙ is.count)
-    (λ i s at. slice_get-map is_visible_definition bare i ∙ ap (option_map is_visible_definition) (is.each i s at))
 
 -- ---- whether the symbols of a table are reached
 

@@ -15,7 +15,7 @@ ghost use Rattle.sym_hash.specs.Verdict.{hash_verdict};
 use crate::hash::{gnu_hash, sysv_hash};
 use crate::{gnu, sysv};
 use elf_dynamic::JudgedParts;
-use elf_head::{SymbolTable, read_hash_words};
+use elf_head::read_hash_words;
 use ld_base::{HashTable, Head, NotAccepted, ReadFault, Symbol};
 use std::alloc::{AllocError, Global};
 
@@ -30,34 +30,13 @@ fn hash_of(table: &HashTable, name: &[u8]) -> u32
 }
 
 /// The hashes of the names of symbols.
-pub(crate) fn hashes_of(
-    alloc: Global,
-    table: &HashTable,
-    symbols: &[Symbol],
-) -> Result<Vec<u32>, AllocError>
+fn hashes_of(alloc: Global, table: &HashTable, symbols: &[Symbol]) -> Result<Vec<u32>, AllocError>
     ensures { IfOk result (λ hashes. hashes.items ≡ map (λ s. hash_by table.now s.name) symbols.now) }
 {
     symbols
         .iter()
         .map(|symbol| hash_of(table, symbol.name.as_bytes()))
         .collect(alloc)
-}
-
-/// The hashes of the names of symbols, of which none is copied.
-fn table_hashes(
-    alloc: Global,
-    table: &HashTable,
-    symbols: &SymbolTable,
-) -> Result<Vec<u32>, AllocError>
-    ensures length { IfOk result (λ hashes. length hashes.items ≡ length symbols.now) }
-    ensures each { IfOk result (λ hashes. (i : ℕ) (s : Symbol) → slice_get symbols.now i ≡ Some s
-        → slice_get hashes.items i ≡ Some (hash_by table.now s.name)) }
-{
-    let mut hashes = Vec::with_capacity(alloc, symbols.len() as usize)?;
-    for index in 0..symbols.len() {
-        hashes.push(hash_of(table, symbols.name(index)))?;
-    }
-    Ok(hashes)
 }
 
 /// Whether the symbol is an exported definition.
@@ -102,7 +81,7 @@ fn unmet(
 }
 
 /// The table, unless it breaks rule 19 for symbols whose names have these hashes.
-pub(crate) fn judge(
+fn judge(
     alloc: Global,
     table: HashTable,
     symbols: &[Symbol],
@@ -123,7 +102,7 @@ pub(crate) fn judge(
     }
 }
 
-/// Reads the hash tables of an object whose parts are judged: none of its names is copied.
+/// Reads the hash tables of an object whose parts are judged.
 ///
 /// # Errors
 ///
@@ -140,6 +119,7 @@ pub fn judge_table(
     ensures { Gives result (hash_verdict bytes.now head.now parts.now) }
 {
     let table = read_hash_words(alloc, bytes, head, parts.tags())?;
-    let hashes = table_hashes(alloc, &table, &parts.symbols())?;
-    judge(alloc, table, parts.bare(), &hashes, parts.first_exported())
+    let symbols = parts.symbols().as_slice();
+    let hashes = hashes_of(alloc, &table, symbols)?;
+    judge(alloc, table, symbols, &hashes, parts.first_exported())
 }

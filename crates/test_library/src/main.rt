@@ -3,7 +3,7 @@
 
 use elf_object::read_object;
 use history_calls::Setup;
-use ld_base::{Name, Names};
+use ld_base::{Name, Names, SharedBytes};
 use library_source::{FolderLibrary, Library};
 use plain_world::World;
 use std::{env, io};
@@ -16,7 +16,8 @@ fn main(rt: HostRuntime) -> io::Result<()> {
         let Ok(bytes) = library.read(path.as_bytes()) else {
             continue
         };
-        if let Ok((object, _table)) = read_object(alloc, bytes.as_slice(), true) {
+        let file = SharedBytes::from_vec(bytes)?;
+        if let Ok((object, _table)) = read_object(alloc, &file, true) {
             let (needed, slots) = (object.needed.len(), object.plt_relocs.len());
             print!(rt; "{path} needs {needed} libraries and has {slots} slots\n")?;
         }

@@ -1,6 +1,6 @@
 //! One line: read, compared with the event that may come, and taken in.
 
-ghost use Rattle.std.specs.Prelude.{◌≡◌, ◌≤◌, ℕ, false, true, is_ok, List, Err, IfErr, IfOk, IfSome, IsTrue};
+ghost use Rattle.std.specs.Prelude.{◌≡◌, ◌≤◌, ℕ, false, true, is_ok, List, Err, IfErr, IfOk, IfSome, IsTrue, OnOk};
 ghost use Rattle.history_event.specs.declared.event.Event.{Event};
 ghost use Rattle.history_journal.specs.Following.{machine_of};
 ghost use Rattle.history_state.specs.Setting.{Setting};
@@ -11,14 +11,14 @@ ghost use Rattle.trace_opens.specs.declared.failed_paths.judging.Doubt.TheVarian
 ghost use Rattle.trace_read.specs.Lines.{HasLine};
 ghost use Rattle.trace_read.specs.Said.{said_of};
 ghost use Rattle.trace_replay.specs.Shown.{Shows};
-ghost use Rattle.trace_replay.specs.Taken.{Takes, event_of};
+ghost use Rattle.trace_replay.specs.Taken.{Follows, OpensNothing, Takes, event_of};
 ghost use Rattle.trace_rows.specs.Rows.{IsNoOpening};
 
 use crate::verdict::TraceCause;
-use history_event::{EventLine, OpenAsk, OpenLine, Opening};
+use history_event::{Event, EventLine, OpenAsk, OpenLine, Opening};
 use ld_base::{HartId, Names};
 use library_source::Library;
-use std::alloc::Global;
+use std::alloc::{AllocError, Global};
 use trace_opens::{Doubt, expected_open};
 use trace_read::{TraceFault, read_event};
 use trace_replay::Replay;
@@ -159,9 +159,23 @@ fn take_row(alloc: Global, replay: &mut Replay, said: &EventLine) -> Result<bool
 {
     match expected(alloc, replay, said)? {
         Some(event) => {
-            replay.take_in(&event)?;
+            take_event(replay, event)?;
             Ok(true)
         }
         None => Ok(false),
     }
+}
+
+/// Takes in an event that may come, any but an opening.
+///
+/// # Errors
+///
+/// Want of memory.
+fn take_event(replay: &mut Replay, event: Event) -> Result<(), AllocError>
+    requires follows { Follows replay.old event }
+    requires opens { OpensNothing event }
+    ensures takes { OnOk result (Takes replay.old event replay.new) }
+    ensures harts { replay.new.harts ≡ replay.old.harts }
+{
+    replay.take_in(&event)
 }

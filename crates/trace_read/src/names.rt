@@ -90,7 +90,7 @@ fn unescaped(alloc: Global, text: &[u8]) -> Result<Name, TraceFault>
         bytes.push(byte)?;
         rest = behind;
     }
-    Ok(Name::from(bytes))
+    Ok(Name::from_vec(bytes)?)
 }
 
 /// A name.

@@ -11,6 +11,10 @@ use ld_base::{Bytes, Name};
 use std::alloc::AllocError;
 
 /// Appends a name and a zero byte.
+///
+/// # Errors
+///
+/// Want of memory. A part of the bytes may have been appended then.
 #[tactic(auto, unfolding(asm_layout::specs::Contents::string_bytes))]
 pub fn append_string(out: &mut Bytes, name: &[u8]) -> Result<(), AllocError>
     ensures { OnOk result (out.new ≡ out.old ++ string_bytes name.now) }
@@ -50,6 +54,10 @@ fn append_lines(out: &mut Bytes, lines: &[Line]) -> Result<(), AllocError>
 }
 
 /// Appends the names of the libraries that a source needs.
+///
+/// # Errors
+///
+/// Want of memory. A part of the bytes may have been appended then.
 pub fn append_needed(out: &mut Bytes, statements: &Statements) -> Result<(), AllocError>
     ensures { OnOk result (out.new ≡ out.old ++ flat_map string_bytes (needed statements.now)) }
 {
@@ -57,6 +65,10 @@ pub fn append_needed(out: &mut Bytes, statements: &Statements) -> Result<(), All
 }
 
 /// Appends names.
+///
+/// # Errors
+///
+/// Want of memory. A part of the bytes may have been appended then.
 pub fn append_names(out: &mut Bytes, names: &[Name]) -> Result<(), AllocError>
     ensures { OnOk result (out.new ≡ out.old ++ flat_map string_bytes names.now) }
 {
@@ -67,6 +79,10 @@ pub fn append_names(out: &mut Bytes, names: &[Name]) -> Result<(), AllocError>
 }
 
 /// Appends names that are spelled so.
+///
+/// # Errors
+///
+/// Want of memory. A part of the bytes may have been appended then.
 pub fn append_spelled(out: &mut Bytes, names: &[Vec<u8>]) -> Result<(), AllocError>
     ensures { OnOk result (out.new ≡ out.old ++ flat_map string_bytes (map (λ name. name.items) names.now)) }
 {
@@ -77,6 +93,10 @@ pub fn append_spelled(out: &mut Bytes, names: &[Vec<u8>]) -> Result<(), AllocErr
 }
 
 /// Appends the names of exported symbols.
+///
+/// # Errors
+///
+/// Want of memory. A part of the bytes may have been appended then.
 pub fn append_exports(out: &mut Bytes, exports: &[Exported]) -> Result<(), AllocError>
     ensures { OnOk result (out.new ≡ out.old ++ flat_map string_bytes (map (λ exported. exported.name) exports.now)) }
 {

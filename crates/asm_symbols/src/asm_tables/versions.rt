@@ -11,23 +11,33 @@ use std::alloc::{AllocError, Global};
 use sym_hash::{gnu_hash, sysv_hash};
 
 /// The hashes of symbols for the GNU table.
+///
+/// # Errors
+///
+/// Want of memory.
 pub fn gnu_hashes(alloc: Global, exports: &[Exported]) -> Result<Vec<u32>, AllocError>
     ensures { IfOk result (λ hashes. hashes.items ≡ map (λ exported. gnu_hash exported.name) exports.now) }
 {
-    exports
-        .iter()
-        .map(|exported| gnu_hash(exported.name.as_bytes()))
-        .collect(alloc)
+    let mut hashes = Vec::with_capacity(alloc, exports.len())?;
+    for exported in exports {
+        hashes.push(gnu_hash(exported.name.as_bytes()))?;
+    }
+    Ok(hashes)
 }
 
 /// The hashes of symbols for the System V table.
+///
+/// # Errors
+///
+/// Want of memory.
 pub fn sysv_hashes(alloc: Global, exports: &[Exported]) -> Result<Vec<u32>, AllocError>
     ensures { IfOk result (λ hashes. hashes.items ≡ map (λ exported. sysv_hash exported.name) exports.now) }
 {
-    exports
-        .iter()
-        .map(|exported| sysv_hash(exported.name.as_bytes()))
-        .collect(alloc)
+    let mut hashes = Vec::with_capacity(alloc, exports.len())?;
+    for exported in exports {
+        hashes.push(sysv_hash(exported.name.as_bytes()))?;
+    }
+    Ok(hashes)
 }
 
 /// How far behind a record the next one stands.

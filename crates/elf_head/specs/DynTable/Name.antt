@@ -1,5 +1,5 @@
 -- Strings of a string table (gABI, "String Table").
-use Rattle.std.specs.Prelude.{ℕ, ◌<◌, ◌==◌, List, [], length, take, drop, Option, unwrap_or}
+use Rattle.std.specs.Prelude.{◌≡◌, ℕ, ◌+◌, ◌≤◌, ◌<◌, ◌==◌, slice_range, List, [], length, take, drop, Option, unwrap_or}
 use Rattle.elf_head.specs.AcceptancePart.Before.{before, StandsBefore}
 
 -- the string at an offset: the bytes before the first zero byte, which is one of the 4,096 bytes from there on
@@ -10,6 +10,11 @@ string_at strings offset = before (λ b. b == 0) (take 4096 (drop offset strings
 pub record IsStringAt (strings : List ℕ) (offset : ℕ) (name : List ℕ) : Type 0 where
   pub ended : StandsBefore (λ b. b == 0) name (drop offset strings)
   pub short : length name < 4096
+
+-- the name is what stands from the offset on
+pub record IsWithin (strings : List ℕ) (offset : ℕ) (name : List ℕ) : Type 0 where
+  pub held : offset + length name ≤ length strings
+  pub cut : slice_range strings offset (offset + length name) ≡ name
 
 -- the string at an offset, empty where there is none
 abbrev pub string_in : List ℕ → ℕ → List ℕ

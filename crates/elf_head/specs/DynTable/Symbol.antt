@@ -1,6 +1,5 @@
 -- The symbol table (gABI, "Symbol Table").
-use Rattle.std.specs.Prelude.{◌≡◌, ℕ, ◌+◌, List, [], length, slice_index, Some}
-use Rattle.std.specs.List.{slice_get}
+use Rattle.std.specs.Prelude.{ℕ, ◌+◌, List, slice_index}
 use Rattle.ld_base.specs.Field.{field}
 use Rattle.ld_base.specs.declared.object.Symbol.{Symbol}
 use Rattle.elf_head.specs.AcceptancePart.Table.{table}
@@ -22,15 +21,6 @@ symbol_named bytes at name = record {
   version = 0;
 }
 
--- the first n symbols, each 24 bytes after the one before, without their names
-unfoldable pub bare_symbols : List ℕ → ℕ → List Symbol
-bare_symbols bytes n = table (λ at. symbol_named bytes at []) 0 24 n
-
--- the same with their names, an empty one where there is no string
+-- the first n symbols, each 24 bytes after the one before, with their names, an empty one where there is no string
 unfoldable pub symbols_in : List ℕ → List ℕ → ℕ → List Symbol
 symbols_in bytes strings n = table (λ at. symbol_named bytes at (string_in strings (symbol_name bytes at))) 0 24 n
-
--- these are the symbols but for their names
-pub record IsBare (symbols bare : List Symbol) : Type 0 where
-  pub count : length bare ≡ length symbols
-  pub each : (i : ℕ) (s : Symbol) → slice_get symbols i ≡ Some s → slice_get bare i ≡ Some (record s { name = [] })

@@ -4,15 +4,9 @@ ghost use Rattle.std.specs.Prelude.{◌≡◌, ◌↔◌, ℕ, List, Some};
 ghost use Rattle.ld_base.specs.declared.parts.Tag.{Tag};
 ghost use Rattle.elf_head.specs.DynTable.Tag.{tags_of, EndsAtNull};
 ghost use Rattle.elf_head.specs.DynTable.Name.{string_at, IsStringAt};
-ghost use Rattle.elf_head.specs.DynTable.Symbol.{bare_symbols, symbols_in, IsBare};
 
 /// Every table has one reading: at most one list stands for it, each entry at its own place.
 pub fn one_reading()
     ensures tags { (bytes : List ℕ) (tags : List Tag) → (tags_of bytes ≡ Some tags) ↔ EndsAtNull bytes tags }
     ensures string { (strings name : List ℕ) (offset : ℕ) → (string_at strings offset ≡ Some name) ↔ IsStringAt strings offset name }
-{}
-
-/// Bare symbols are those of the table but for their names.
-pub fn bare_symbols_lack_names()
-    ensures { (bytes strings : List ℕ) (count : ℕ) → IsBare (symbols_in bytes strings count) (bare_symbols bytes count) }
 {}

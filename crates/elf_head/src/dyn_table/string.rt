@@ -1,17 +1,18 @@
 //! Strings of a string table (gABI, "String Table").
 
-ghost use Rattle.std.specs.Prelude.{◌≡◌, ◌==◌, ◌≤◌, ◌^◌, IfOk, position, take, drop};
+ghost use Rattle.std.specs.Prelude.{◌≡◌, ◌==◌, ◌≤◌, ◌^◌, IfOk, IfSome, position, take, drop};
 ghost use Rattle.std.specs.Option.{option_copied};
-ghost use Rattle.elf_head.specs.DynTable.Name.{string_at, string_in};
+ghost use Rattle.elf_head.specs.DynTable.Name.{string_at, string_in, IsWithin};
 
-use ld_base::Name;
-use std::alloc::{AllocError, Global};
+use ld_base::{Name, SharedBytes};
+use std::alloc::AllocError;
 
 /// The most bytes that a string has, its zero byte counted: what keeps reading many of them cheap.
 pub const STRING_LIMIT: usize = 4096;
 
 /// As many bytes as the names of one list have together: eight times those of the largest file.
-/// Names may share bytes of the file, and each has a copy of them.
+/// Names may share bytes of the file, so that without a bound a file could ask for looks at many
+/// times its own bytes.
 pub const MOST_NAME_BYTES: usize = 1 << 26;
 
 /// The index of the first zero byte.
@@ -34,9 +35,10 @@ fn window(strings: &[u8], offset: u64) -> &[u8]
 
 /// The bytes of the string at an offset, without the zero byte that ends it. None where it starts
 /// outside the table, isn't ended in it, or is longer than 4,095 bytes.
-#[tactic(auto, unfolding(crate::specs::DynTable::Name::string_at))]
+#[tactic(auto, unfolding(crate::specs::DynTable::Name::string_at), using(crate::proofs::DynTable::Strings::string_found))]
 pub fn string_at(strings: &[u8], offset: u64) -> Option<&[u8]>
-    ensures { option_copied result ≡ string_at strings.now offset }
+    ensures value { option_copied result ≡ string_at strings.now offset }
+    ensures place { IfSome result (λ name. IsWithin strings.now offset name.now) }
 {
     let window = window(strings, offset);
     match first_zero(window) {
@@ -45,17 +47,29 @@ pub fn string_at(strings: &[u8], offset: u64) -> Option<&[u8]>
     }
 }
 
-/// The string at an offset, empty where there is none.
-pub fn read_string(alloc: Global, strings: &[u8], offset: u64) -> Result<Name, AllocError>
+/// The string at an offset, in the memory of the table; the name of no bytes where there is none.
+///
+/// # Errors
+///
+/// Want of memory: so many owners of the table that they can't be counted.
+pub fn read_string(strings: &SharedBytes, offset: u64) -> Result<Name, AllocError>
     ensures { IfOk result (λ name. name ≡ string_in strings.now offset) }
 {
-    match string_at(strings, offset) {
-        Some(bytes) => Name::new(alloc, bytes),
-        None => Name::new(alloc, &[]),
+    match string_at(strings.as_slice(), offset) {
+        Some(bytes) => {
+            let start = offset as usize;
+            let end = start + bytes.len();
+            Ok(Name::from(strings.slice(start..end)?))
+        }
+        None => Ok(Name::empty()),
     }
 }
 
-/// The bytes of some names and of one more. A byte too many is want of memory.
+/// The bytes of some names and of one more.
+///
+/// # Errors
+///
+/// Want of memory, which a byte too many counts as.
 pub fn with_name(so_far: usize, name: &Name) -> Result<usize, AllocError>
     ensures { IfOk result (λ together. together ≤ 2 ^ 26) }
 {

@@ -9,4 +9,4 @@ returns-clause-answers c =
     answers _ _ _ (λ read is. (law.verdict _ program read.0).0 (read.1, is)) (λ fault. (law.refused _ program fault).0) _ c.read_parts.ensures
 
 pub returns-clause-table : goal.returns-clause-table
-returns-clause-table c = given_table _ _ (c.one_object.ensures.table c.args.bytes.now c.args.program) c.read_parts.ensures
+returns-clause-table c = given_table _ _ (c.one_object.ensures.table c.args.file.now c.args.program) c.read_parts.ensures

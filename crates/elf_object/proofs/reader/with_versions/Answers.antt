@@ -1,13 +1,15 @@
-use Rattle.std.proofs.Common.{◌∙◌, ap, map, sym}
-use Rattle.std.proofs.lemmas.Iterator.Adapters.{YieldsList-from_vec}
-use Rattle.std.proofs.lemmas.Iterator.Consumers.{YieldsList-end, YieldsList-from_enumerate}
-use Rattle.std.proofs.lemmas.List.{map-id}
-use Rattle.elf_object.specs.Object.{with_version, with_versions}
+use Rattle.std.proofs.Common.{◌∙◌, ap, length, arith}
+use Rattle.std.proofs.lemmas.List.{length-set}
+use Rattle.elf_object.specs.Object.{with_versions}
+use Rattle.elf_object.proofs.Versioned.{next_version, all_versions}
 use Rattle.elf_object.proofs.reader.with_versions.Goals as goal
+
+pub loop-index-preserved : goal.loop-index-preserved
+loop-index-preserved c = record {
+  versions = next_version c.args.versym.now c.args.symbols c.loop-index.versioned.items c.loop-index.index c.version_at.result c.index_mut.result.now c.loop-index.invariant.versions c.loop-index.invariant.len (omega (arith, c.loop-index-test.true, c.len-index-end.ensures, ap length c.into_vec-versioned.ensures.value, c.loop-index.invariant.len)) c.index_mut.ensures.value c.version_at.ensures;
+  len = length-set c.loop-index.versioned.items c.loop-index.index _ ∙ c.loop-index.invariant.len;
+}
 
 pub returns : goal.returns
 unfolding with_versions
-returns c =
-    let road = YieldsList-from_enumerate {s = c.into_iter-index-iterator.result} (YieldsList-from_vec c.args.symbols (cc) (cc)) (cc) in
-    let all = YieldsList-end road c.loop-index.yielded c.loop-index.index-iterator c.loop-index.yielded_by c.next.result c.next.new.self c.in-None.is c.next.ensures.steps in
-    c.loop-index.invariant ∙ ap (map (with_version c.args.versym.now)) (sym (map-id c.loop-index.yielded) ∙ all.0)
+returns c = c.from_vec.ensures ∙ all_versions c.args.versym.now c.args.symbols _ c.loop-index.index (omega (arith, c.loop-index-test.false, c.len-index-end.ensures, ap length c.into_vec-versioned.ensures.value)) c.loop-index.invariant.versions

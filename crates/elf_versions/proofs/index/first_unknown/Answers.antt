@@ -14,7 +14,7 @@ returns c =
     let versions = c.args.versions.now in
     let list : c.deref-3.result.now ≡ indexes_of versions.verdefs versions.verneeds =
     c.deref-3.ensures.value ∙ c.in_ok-indexes.ensures
-    ∙ rw (c.deref.ensures.value, c.deref-2.ensures.value) (indexes_same v.strings.now v.verdefs.items v.verneeds.items)
+    ∙ rw (c.deref.ensures.value, c.deref-2.ensures.value) (indexes_same v.strings v.verdefs.items v.verneeds.items)
     ∙ ap (λ (x : Versions). indexes_of x.verdefs x.verneeds) c.versions.view_is in
     let known : (k : ℕ) → k < 65536 → slice_index_or c.deref-4.result.now k false ≡ list_any (λ i. i == k) (indexes_of versions.verdefs versions.verneeds) =
     λ k below. rw (c.deref-4.ensures.value, ← list) (c.in_ok-marks.ensures.marks k below) in

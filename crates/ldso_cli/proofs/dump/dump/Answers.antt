@@ -8,7 +8,7 @@ returns-in-Ok-clause-answers g c =
     let before = library_at g.L.Library.files g.L.Library.faults g.L.Library.misses c.args.library.now in
     let after = library_at g.L.Library.files g.L.Library.faults g.L.Library.misses c.read.new.self in
     shown_answers c.args.path before after c.in-Ok.bytes.items c.of_bytes.result (rw c.as_bytes.ensures at c.in-Ok.ensures.found)
-    (rw c.as_slice.ensures.value at c.of_bytes.ensures.end) (rw c.as_slice.ensures.value at c.of_bytes.ensures.text)
+    c.of_bytes.ensures.end c.of_bytes.ensures.text
 
 pub returns-in-Err-Missing-clause-answers : goal.returns-in-Err-Missing-clause-answers
 returns-in-Err-Missing-clause-answers g c =

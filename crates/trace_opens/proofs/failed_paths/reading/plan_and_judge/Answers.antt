@@ -19,3 +19,7 @@ returns-clause-path g c = if_err c.judge.result (λ doubt failed w past id befor
     fails_so w past c.args.hart c.args.ask.now c.plan_named-planned.result (may_ask (after past) c.args.hart c.args.ask.now before.made.started)
     (c.plan_named-planned.ensures.unopened w past id before) doubt failed)
     c.judge.ensures.failed
+
+pub returns-clause-failed : goal.returns-clause-failed
+returns-clause-failed g c =
+    if_err c.judge.result (λ doubt shown failed is. c.plan_named-planned.ensures.counts.failed failed (shown failed is)) c.judge.ensures.failed

@@ -7,7 +7,9 @@ use Rattle.link_open_plan.specs.Planned.{IsUnopened, PlansNew}
 use Rattle.link_open_plan.specs.Startup.{run_of}
 use Rattle.trace_opens.specs.FailedPaths.Row.{GivesOther}
 use Rattle.trace_opens.specs.OpeningRows.Expected.{MayFailSo}
-use Rattle.trace_opens.proofs.FailedPaths.Plans.{fails_so, if_err, if_ok, start_ask, start_other}
+use Rattle.history_state.specs.Allowed.{Allowed}
+use Rattle.trace_opens.specs.FailedPaths.Emptied.{first_rule, is_broken}
+use Rattle.trace_opens.proofs.FailedPaths.Plans.{broken_at, fails_so, if_err, if_ok, start_ask, start_other}
 use Rattle.trace_opens.proofs.failed_paths.reading.plan_program_and_judge.Goals as goal
 
 pub returns-clause-no : goal.returns-clause-no
@@ -26,3 +28,15 @@ returns-clause-path g c = if_err c.judge.result (λ doubt failed.
     (fails_so w [] 0 (program_ask c.args.setup.now) c.plan_program-planned.result (λ begins. start_ask c.args.setup.now)
     (subst (λ (a : OpenAsk). IfErr c.plan_program-planned.result (IsUnopened w (after []) 0 a)) c.requires.ask c.plan_program-planned.ensures.unopened) doubt failed))
     c.judge.ensures.failed
+
+pub returns-clause-yes : goal.returns-clause-yes
+returns-clause-yes g c = if_ok c.judge.result (λ may is yes.
+    let w = run_of c.args.setup.now (g.L.Library.files c.args.library.now) in
+    subst (λ (a : OpenAsk). Allowed w [] (is_broken 0 a c.args.path.now first_rule)) (sym c.requires.ask)
+    (broken_at w [] 0 (program_ask c.args.setup.now) c.args.path.now c.plan_program-planned.result (λ begins. start_ask c.args.setup.now) (is yes)
+    (subst (λ (a : OpenAsk). IfErr c.plan_program-planned.result (IsUnopened w (after []) 0 a)) c.requires.ask c.plan_program-planned.ensures.unopened)))
+    c.judge.ensures.yes
+
+pub returns-clause-failed : goal.returns-clause-failed
+returns-clause-failed g c =
+    if_err c.judge.result (λ doubt shown failed is. c.plan_program-planned.ensures.counts.failed failed (shown failed is)) c.judge.ensures.failed
