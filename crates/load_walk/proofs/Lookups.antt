@@ -1,4 +1,4 @@
--- What the check of versions looks up by name.
+-- What a load looks up by name.
 use Rattle.std.proofs.Common.{◌≡◌, ℕ, ◌==◌, ◌+◌, ◌<◌, Bool, true, false, ◌||◌, inl, inr, List, [], ◌∷◌, ◌++◌, length, get_or, take, Some, None, Option, cond, refl, subst, sym, ap, ◌∙◌, arith}
 use Rattle.std.specs.Prelude.{nat_eq, position, IfSome}
 use Rattle.std.specs.Global.{Vec}
@@ -15,11 +15,15 @@ use Rattle.indexmap.specs.IndexMap.{insert_entry}
 use Rattle.indexmap.specs.IndexSet.{insert_key}
 use Rattle.ld_base.specs.Version.{is_base}
 use Rattle.ld_base.specs.declared.linking.Loaded.{Loaded}
+use Rattle.ld_base.specs.declared.object.Object.{Object}
 use Rattle.ld_base.specs.declared.object.Verdef.{Verdef}
+use Rattle.scope_rule.specs.Finding.{is_named}
 use Rattle.scope_rule.specs.Lemmas.Placed.{position_pushed}
 use Rattle.scope_rule.specs.Needed.{defines}
 use Rattle.load_walk.specs.declared.lookup.Defined.{Defined}
+use Rattle.load_walk.specs.declared.places.ObjectPlaces.{ObjectPlaces}
 use Rattle.load_walk.specs.Lookup.{named, place_of, IsKnown, Knows}
+use Rattle.load_walk.specs.Places.{NotesObject, AreObjectPlaces, HasNoPlaces}
 use Rattle.load_walk.proofs.Missing.{same_path}
 
 -- the element behind the first n
@@ -38,6 +42,27 @@ place_added ((key, place) ∷ places) name other n new =
       | inr apart ↦ rw apart (elim (bytes_eq other key.items) as (λ v. cond v (Some place) (place_of (insert_entry same_path places name n) other) ≡ option_or (cond v (Some place) (place_of places other)) (cond (bytes_eq name.items other) (Some n) None))
           [ true ↦ refl | false ↦ place_added places name other n (rw apart at new) ])
     ]
+
+-- ---- the places of objects
+
+module _ {X : Type 0} (path : X → List ℕ) (object : X → Object) where
+  pub none_placed : (places : ObjectPlaces) → HasNoPlaces places → AreObjectPlaces path object [] places
+  none_placed places none = record { paths = none.paths; sonames = none.sonames }
+
+  -- one object more, at the end, or behind the first n
+  pub place_pushed : (xs : List X) (x : X) (old new : ObjectPlaces) → AreObjectPlaces path object xs old → NotesObject old new (path x) (object x) (length xs) → AreObjectPlaces path object (xs ++ x ∷ []) new
+  place_pushed xs x old new are adds = record {
+    paths = λ name. adds.paths name ∙ rw (are.paths name) (sym (position_pushed (λ y. bytes_eq (path y) name) xs x));
+    sonames = λ name. adds.sonames name ∙ rw (are.sonames name) (sym (position_pushed (λ y. is_named name (object y)) xs x));
+  }
+
+  pub place_further : (xs : List X) (n : ℕ) (x : X) (old new : ObjectPlaces) → n < length xs → x ≡ get_or xs n x → AreObjectPlaces path object (take n xs) old → NotesObject old new (path x) (object x) n → AreObjectPlaces path object (take (n + 1) xs) new
+  place_further xs n x old new lt is are adds = record {
+    paths = λ name. adds.paths name ∙ rw (are.paths name) (sym (one_further (λ y. bytes_eq (path y) name) xs n x lt is));
+    sonames = λ name. adds.sonames name ∙ rw (are.sonames name) (sym (one_further (λ y. is_named name (object y)) xs n x lt is));
+  }
+
+-- ---- the versions of an object
 
 -- a name that is there already adds nothing
 known_name : (names : List (Vec ℕ)) (name : Vec ℕ) (bytes : List ℕ) → list_any (same_path name) names ≡ true → named names bytes ≡ (named names bytes || bytes_eq bytes name.items)

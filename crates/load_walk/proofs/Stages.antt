@@ -18,7 +18,7 @@ use Rattle.scope_rule.specs.Finding.{Reading, here, absent, at_path}
 use Rattle.scope_rule.specs.Load.{Load, Walk, Stops, refuses, stops, waits, by_reading, finds, take_found, paths_of}
 use Rattle.load_walk.specs.Files.{Verdict, reading_of, reading_until, failing, is_program, load_of, load_over, load_until}
 use Rattle.load_walk.specs.Plan.{IsMissed}
-use Rattle.load_walk.specs.Staging.{Alone, Source, Stays, Stage, Faulted, TakesBytes, Reads}
+use Rattle.load_walk.specs.Staging.{Alone, Source, Stays, Stage, Faulted, TakesFile, Reads}
 use Rattle.load_walk.specs.Walking.{walk_of, Agrees, IsToRead, EndsWith, Looks, grown, IsUnread}
 use Rattle.load_walk.specs.declared.ask.LoadAsk.{LoadAsk}
 use Rattle.load_walk.specs.declared.ask.LoadFault.{LoadFault}
@@ -253,7 +253,7 @@ module _ (verdict : Verdict) (ask : LoadAsk) (there : List Loaded) (first mid : 
       (λ name e. absurd cc) (λ path e. absurd cc)
 
   -- what became of the bytes that were read
-  pub bytes_taken : (now : Source) (p bytes : List ℕ) (new : Walker) (r : Result (Unit {0}) LoadFault) → Stays mid now → TellsAt mid.files p (Some bytes) → IsToRead ask there w p → TakesBytes verdict ask w p bytes new r → Reads verdict ask there first now new r
+  pub bytes_taken : (now : Source) (p bytes : List ℕ) (new : Walker) (r : Result (Unit {0}) LoadFault) → Stays mid now → TellsAt mid.files p (Some bytes) → IsToRead ask there w p → TakesFile verdict ask w p bytes new r → Reads verdict ask there first now new r
   bytes_taken now p bytes new (Ok done) stays tells to_read (o, path, is, same) = rw same (stage_grown now o bytes stays (rw path tells) (rw path to_read) (rw path is))
   bytes_taken now p bytes new (Err (faults.Refused fault)) stays tells to_read (broken, same, is) = rw same (faulted_broken now p bytes broken stays tells to_read is)
   bytes_taken now p bytes new (Err (faults.Wait shown)) stays tells to_read no_way = absurd no_way

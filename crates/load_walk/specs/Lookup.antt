@@ -1,8 +1,9 @@
--- What the check of versions looks up by name.
-use Rattle.std.specs.Prelude.{◌≡◌, ℕ, ◌==◌, ◌||◌, Bool, true, List, Option, Some, None, IfSome, find, position}
+-- What a load looks up by name.
+use Rattle.std.specs.Prelude.{◌≡◌, ℕ, ◌==◌, ◌||◌, if◌then◌else◌, Bool, true, List, Option, Some, None, IfSome, find, position}
 use Rattle.std.specs.Global.{Vec}
 use Rattle.std.specs.List.{list_any}
 use Rattle.std.specs.Map.{lookup}
+use Rattle.std.specs.Option.{option_or}
 use Rattle.std.specs.Str.{bytes_eq}
 use Rattle.ld_base.specs.declared.linking.Loaded.{Loaded}
 use Rattle.scope_rule.specs.Needed.{defines_version}
@@ -20,6 +21,11 @@ place_of places bytes = lookup (λ name. bytes_eq bytes name.items) places
 -- a name's place is where it comes first
 abbrev pub ArePlacesOf : List (List ℕ) → NamePlaces → Type 0
 ArePlacesOf names places = (bytes : List ℕ) → place_of places.firsts.entries bytes ≡ position (λ name. bytes_eq name bytes) names
+
+-- the names for which this holds take a place, unless they have an earlier one
+abbrev pub TakePlace : NamePlaces → NamePlaces → (List ℕ → Bool) → ℕ → Type 0
+TakePlace old new these place =
+    (name : List ℕ) → place_of new.firsts.entries name ≡ option_or (place_of old.firsts.entries name) (if these name then Some place else None)
 
 -- a version is one of those that are defined
 abbrev pub has : Defined → List ℕ → Bool

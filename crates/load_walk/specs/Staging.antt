@@ -61,13 +61,13 @@ Turns verdict ask there first now w (Ok done) = Stage verdict ask there first no
 Turns verdict ask there first now w (Err fault) = Faulted verdict ask there first now fault
 
 -- what became of the bytes at a path: a new object, or why they aren't one
-abbrev pub TakesBytes : Verdict → LoadAsk → Walker → List ℕ → List ℕ → Walker → Result (Unit {0}) LoadFault → Type 0
-TakesBytes verdict ask old path bytes new (Ok done) =
+abbrev pub TakesFile : Verdict → LoadAsk → Walker → List ℕ → List ℕ → Walker → Result (Unit {0}) LoadFault → Type 0
+TakesFile verdict ask old path bytes new (Ok done) =
     (o : Arrival) × (o.path ≡ path) × (verdict bytes (is_program ask path) ≡ Ok (o.object, o.table)) × (new ≡ grown ask old o)
-TakesBytes verdict ask old path bytes new (Err (faults.Refused fault)) =
+TakesFile verdict ask old path bytes new (Err (faults.Refused fault)) =
     (broken : NotAccepted) × (fault ≡ dl.NotAccepted path broken) × (verdict bytes (is_program ask path) ≡ Err broken)
-TakesBytes verdict ask old path bytes new (Err (faults.Wait shown)) = ⊥
-TakesBytes verdict ask old path bytes new (Err faults.Memory) = Unit {0}
+TakesFile verdict ask old path bytes new (Err (faults.Wait shown)) = ⊥
+TakesFile verdict ask old path bytes new (Err faults.Memory) = Unit {0}
 
 -- after a path was read
 abbrev pub Reads : Verdict → LoadAsk → List Loaded → Source → Source → Walker → Result (Unit {0}) LoadFault → Type 0

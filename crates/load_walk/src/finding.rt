@@ -1,15 +1,15 @@
 //! Finding the object that a name stands for, without reading anything.
 
-ghost use Rattle.std.specs.Prelude.{◌≡◌, ◌<◌, ◌+◌, ◌++◌, ◌∷◌, [], ℕ, List, length, IfOk, OnOk, position};
+ghost use Rattle.std.specs.Prelude.{◌≡◌, ◌<◌, ◌+◌, ◌++◌, ◌∷◌, [], ℕ, List, length, IfOk, OnOk};
 ghost use Rattle.std.specs.Option.{option_copied};
-ghost use Rattle.scope_rule.specs.Finding.{Reading, is_named, with_soname, with_path, at_soname, at_path, is_path, in_folders, candidates};
+ghost use Rattle.scope_rule.specs.Finding.{Reading, is_named, with_soname, with_path, is_path, in_folders, candidates};
 ghost use Rattle.scope_rule.specs.Load.{use_of, find_path, find_paths, find_opened, find_needed, find_root, finds};
 ghost use Rattle.load_walk.specs.Walking.{Means, Searches, Uses};
 
 use crate::ask::{LoadAsk, LoadFault};
+use crate::objects_there::ObjectsThere;
 use crate::walker::Walker;
 use ld_base::{DlFault, HartId, Loaded, Name, Names, Object, Serial, Shown, State};
-use scope_rule::{Arrival, Namespace};
 use std::alloc::{AllocError, Global};
 
 /// The name of the linker's own object.
@@ -68,20 +68,6 @@ pub(crate) fn with_path<'a>(objects: &'a [Loaded], path: &[u8]) -> Option<&'a Lo
     objects.iter().find(|loaded| loaded.path.is(path))
 }
 
-/// The place of the first new object with this name of its own.
-fn at_soname(arrivals: &[Arrival], name: &[u8]) -> Option<usize>
-    ensures { result ≡ at_soname arrivals.now name.now }
-{
-    arrivals.iter().position(|new| is_named(&new.object, name))
-}
-
-/// The place of the first new object with this path.
-fn at_path(arrivals: &[Arrival], path: &[u8]) -> Option<usize>
-    ensures { result ≡ at_path arrivals.now path.now }
-{
-    arrivals.iter().position(|new| new.path.is(path))
-}
-
 /// Whether a name is a path.
 pub(crate) fn is_path(name: &[u8]) -> bool
     ensures { result ≡ is_path name.now }
@@ -96,7 +82,7 @@ fn path_in(alloc: Global, folder: &[u8], name: &[u8]) -> Result<Name, AllocError
     let mut path = Vec::from_slice(alloc, folder)?;
     path.push(b'/')?;
     path.extend_from_slice(name)?;
-    Ok(Name::from(path))
+    Name::from_vec(path)
 }
 
 /// Puts the paths of a name in folders, in order, into an empty list.
@@ -164,16 +150,16 @@ impl Walker {
     fn find_path(
         &self,
         alloc: Global,
-        ns: &Namespace,
+        there: &ObjectsThere,
         ask: &LoadAsk,
         path: &[u8],
     ) -> Result<Finding, LoadFault>
-        ensures { Searches ask.now ns.now.objects self.now result (λ load. find_path load self.now.arrivals path.now) }
+        ensures { Searches ask.now there.now self.now result (λ load. find_path load self.now.arrivals path.now) }
     {
-        if let Some(object) = with_path(ns.objects.as_slice(), path) {
+        if let Some(object) = there.with_path(path) {
             return Ok(Finding::Found(use_of(alloc, ask.hart, object)?));
         }
-        if let Some(place) = at_path(self.arrivals.as_slice(), path) {
+        if let Some(place) = self.arrivals.at_path(path) {
             return self.new_at(ask, place);
         }
         if self.missed.has(path) {
@@ -186,14 +172,14 @@ impl Walker {
     fn find_paths(
         &self,
         alloc: Global,
-        ns: &Namespace,
+        there: &ObjectsThere,
         ask: &LoadAsk,
         paths: &[Name],
     ) -> Result<Finding, LoadFault>
-        ensures { Searches ask.now ns.now.objects self.now result (λ load. find_paths load self.now.arrivals paths.now) }
+        ensures { Searches ask.now there.now self.now result (λ load. find_paths load self.now.arrivals paths.now) }
     {
         for path in paths {
-            match self.find_path(alloc, ns, ask, path.as_bytes())? {
+            match self.find_path(alloc, there, ask, path.as_bytes())? {
                 Finding::Nowhere => {}
                 found => return Ok(found),
             }
@@ -205,14 +191,14 @@ impl Walker {
     fn find_candidates(
         &self,
         alloc: Global,
-        ns: &Namespace,
+        there: &ObjectsThere,
         ask: &LoadAsk,
         name: &[u8],
     ) -> Result<Finding, LoadFault>
-        ensures { Searches ask.now ns.now.objects self.now result (λ load. find_paths load self.now.arrivals (candidates load.folders name.now)) }
+        ensures { Searches ask.now there.now self.now result (λ load. find_paths load self.now.arrivals (candidates load.folders name.now)) }
     {
         let paths = candidates(alloc, ask.folders.as_slice(), name)?;
-        self.find_paths(alloc, ns, ask, paths.as_slice())
+        self.find_paths(alloc, there, ask, paths.as_slice())
     }
 
     /// What a name finds, as dlopen takes it.
@@ -220,54 +206,54 @@ impl Walker {
     fn find_opened(
         &self,
         alloc: Global,
-        ns: &Namespace,
+        there: &ObjectsThere,
         ask: &LoadAsk,
         name: &[u8],
     ) -> Result<Finding, LoadFault>
-        ensures { Searches ask.now ns.now.objects self.now result (λ load. find_opened load self.now.arrivals name.now) }
+        ensures { Searches ask.now there.now self.now result (λ load. find_opened load self.now.arrivals name.now) }
     {
         if is_path(name) {
-            return self.find_candidates(alloc, ns, ask, name);
+            return self.find_candidates(alloc, there, ask, name);
         }
-        if let Some(object) = with_soname(ns.objects.as_slice(), name) {
+        if let Some(object) = there.with_soname(name) {
             return Ok(Finding::Found(use_of(alloc, ask.hart, object)?));
         }
-        if let Some(place) = at_soname(self.arrivals.as_slice(), name) {
+        if let Some(place) = self.arrivals.at_soname(name) {
             return self.new_at(ask, place);
         }
-        self.find_candidates(alloc, ns, ask, name)
+        self.find_candidates(alloc, there, ask, name)
     }
 
     /// What a name finds, as an object needs it.
     fn find_needed(
         &self,
         alloc: Global,
-        ns: &Namespace,
+        there: &ObjectsThere,
         ask: &LoadAsk,
         name: &[u8],
     ) -> Result<Finding, LoadFault>
-        ensures { Searches ask.now ns.now.objects self.now result (λ load. find_needed load self.now.arrivals name.now) }
+        ensures { Searches ask.now there.now self.now result (λ load. find_needed load self.now.arrivals name.now) }
     {
         if name == LINKER_NAME {
             return Ok(Finding::Found(Serial::LINKER));
         }
-        self.find_opened(alloc, ns, ask, name)
+        self.find_opened(alloc, there, ask, name)
     }
 
     /// What the load's own name finds.
     fn find_root(
         &self,
         alloc: Global,
-        ns: &Namespace,
+        there: &ObjectsThere,
         ask: &LoadAsk,
         name: &[u8],
     ) -> Result<Finding, LoadFault>
-        ensures { Searches ask.now ns.now.objects self.now result (λ load. find_root load self.now.arrivals name.now) }
+        ensures { Searches ask.now there.now self.now result (λ load. find_root load self.now.arrivals name.now) }
     {
         if ask.program {
-            return self.find_path(alloc, ns, ask, name);
+            return self.find_path(alloc, there, ask, name);
         }
-        self.find_opened(alloc, ns, ask, name)
+        self.find_opened(alloc, there, ask, name)
     }
 
     /// What the next name finds.
@@ -275,15 +261,15 @@ impl Walker {
     pub(crate) fn find(
         &self,
         alloc: Global,
-        ns: &Namespace,
+        there: &ObjectsThere,
         ask: &LoadAsk,
         name: &[u8],
     ) -> Result<Finding, LoadFault>
-        ensures { Searches ask.now ns.now.objects self.now result (λ load. finds load (length self.now.found) self.now.arrivals name.now) }
+        ensures { Searches ask.now there.now self.now result (λ load. finds load (length self.now.found) self.now.arrivals name.now) }
     {
         if self.found.is_empty() {
-            return self.find_root(alloc, ns, ask, name);
+            return self.find_root(alloc, there, ask, name);
         }
-        self.find_needed(alloc, ns, ask, name)
+        self.find_needed(alloc, there, ask, name)
     }
 }

@@ -6,7 +6,7 @@ ghost use Rattle.ld_base.specs.declared.object.Object.{Object};
 ghost use Rattle.ld_base.specs.declared.parts.HashTable.{HashTable};
 ghost use Rattle.load_walk.specs.Files.{Gives};
 
-use ld_base::{HashTable, Object, ReadFault};
+use ld_base::{HashTable, Object, ReadFault, SharedBytes};
 use std::alloc::Global;
 
 /// A format of object files.
@@ -15,12 +15,16 @@ pub trait Format {
     /// or why they aren't one.
     ghost verdict: { Self → List ℕ → Bool → Result (Object × HashTable) NotAccepted };
 
-    /// Reads an object, or says which rule the bytes break.
+    /// Reads an object, which may keep the file's memory, or says which rule its bytes break.
+    ///
+    /// # Errors
+    ///
+    /// The rule that is broken, with its number, or want of memory.
     fn read(
         &self,
         alloc: Global,
-        bytes: &[u8],
+        file: &SharedBytes,
         program: bool,
     ) -> Result<(Object, HashTable), ReadFault>
-        ensures { Gives result (verdict self.now bytes.now program) };
+        ensures { Gives result (verdict self.now file.now program) };
 }

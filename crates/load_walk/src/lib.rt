@@ -5,7 +5,9 @@
 //! anything: it says which path it has to know next, and is told what reading it gave. One loop knows
 //! the library. What was read is remembered, so that no path is read twice; so there is always one
 //! list of files, the library's own where it tells them, over which the load is that of the
-//! definitions in `scope_rule`. That is the contract of [`plan_with`]. A read fault or a missing
+//! definitions in `scope_rule`. That is the contract of [`plan_with`]. New
+//! objects are found by path and by name in an index (`Arrivals`), and so are those that are there once a
+//! load went through more than a few names (`ObjectsThere`). A read fault or a missing
 //! library comes only where the library failed, or missed each path that the name may have.
 //!
 //! [`find_loaded`] is the load that reads nothing, as under RTLD_NOLOAD.
@@ -14,6 +16,7 @@
 //! and is proved beside the readers. `load_order` loads ELF objects with it.
 #![tactic(auto)]
 
+mod arrivals;
 mod ask;
 mod defined_versions;
 mod driver;
@@ -22,6 +25,8 @@ mod format;
 mod loaded;
 mod lookup;
 mod missed;
+mod objects_there;
+mod places;
 mod plan;
 mod records;
 mod versions;

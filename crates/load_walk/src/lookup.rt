@@ -1,10 +1,9 @@
-//! What the check of versions looks up by name: the objects found for files, and their versions.
+//! What a load looks up by name: places of objects and of files that were found, and versions of objects.
 
-ghost use Rattle.std.specs.Prelude.{◌≡◌, ◌||◌, ℕ, List, Some, None, true, IfOk, OnOk, if◌then◌else◌};
-ghost use Rattle.std.specs.Option.{option_or};
+ghost use Rattle.std.specs.Prelude.{◌≡◌, ◌||◌, ℕ, List, None, true, IfOk, OnOk};
 ghost use Rattle.std.specs.Str.{bytes_eq};
 ghost use Rattle.scope_rule.specs.Needed.{defines, defines_version};
-ghost use Rattle.load_walk.specs.Lookup.{named, place_of, has, ArePlacesOf};
+ghost use Rattle.load_walk.specs.Lookup.{named, place_of, has, ArePlacesOf, TakePlace};
 
 use indexmap::{IndexMap, IndexSet};
 use ld_base::{Name, Object, Verdef};
@@ -17,15 +16,35 @@ pub struct NamePlaces {
 }
 
 impl NamePlaces {
+    /// No name yet.
+    pub fn new(alloc: Global) -> Self
+        ensures { (name : List ℕ) → place_of result.firsts.entries name ≡ None }
+    {
+        NamePlaces {
+            firsts: IndexMap::new(alloc),
+        }
+    }
+
     /// Those of the names of a list.
     pub fn of(alloc: Global, names: &[Name]) -> Result<Self, AllocError>
         ensures { IfOk result (λ places. ArePlacesOf names.now places) }
     {
-        let mut firsts = IndexMap::new(alloc);
+        let mut places = NamePlaces::new(alloc);
         for (place, name) in names.iter().enumerate() {
-            add_place(alloc, &mut firsts, name.as_bytes(), place)?;
+            places.add(alloc, name.as_bytes(), place)?;
         }
-        Ok(NamePlaces { firsts })
+        Ok(places)
+    }
+
+    /// Notes a name's place, unless it has an earlier one.
+    pub fn add(&mut self, alloc: Global, name: &[u8], place: usize) -> Result<(), AllocError>
+        ensures { OnOk result (TakePlace self.old self.new (λ other. bytes_eq name.now other) place) }
+    {
+        if !self.firsts.contains_key(name) {
+            let name = Vec::from_slice(alloc, name)?;
+            self.firsts.insert(name, place)?;
+        }
+        Ok(())
     }
 
     /// The place of a name, if it is one of them.
@@ -34,23 +53,6 @@ impl NamePlaces {
     {
         self.firsts.get(name).copied()
     }
-}
-
-/// Notes a name's place, unless it has an earlier one.
-fn add_place(
-    alloc: Global,
-    firsts: &mut IndexMap<Vec<u8>, usize>,
-    name: &[u8],
-    place: usize,
-) -> Result<(), AllocError>
-    ensures { OnOk result ((other : List ℕ) →
-        place_of firsts.new.entries other ≡ option_or (place_of firsts.old.entries other) (if bytes_eq name.now other then Some place else None)) }
-{
-    if !firsts.contains_key(name) {
-        let name = Vec::from_slice(alloc, name)?;
-        firsts.insert(name, place)?;
-    }
-    Ok(())
 }
 
 /// The versions that an object defines.
@@ -91,7 +93,7 @@ impl Defined {
     }
 }
 
-/// Adds the version that an entry defines, unless it's that of the base.
+/// NotesObject the version that an entry defines, unless it's that of the base.
 fn add_version(
     alloc: Global,
     names: &mut IndexSet<Vec<u8>>,

@@ -5,8 +5,8 @@ ghost use Rattle.scope_rule.specs.Load.{record_of};
 ghost use Rattle.load_walk.specs.Plan.{is_deep};
 ghost use Rattle.load_walk.specs.Records.{AddsRecord, IsShare, added_by, preload_count};
 
+use crate::arrivals::Arrivals;
 use crate::ask::LoadAsk;
-use crate::walker::Arrivals;
 use ld_base::{Added, Loaded, Serial, Serials, State};
 use scope_rule::Arrival;
 use std::alloc::{AllocError, Global};
@@ -73,7 +73,7 @@ fn record_of(ask: &LoadAsk, serial: Serial, arrival: Arrival, found: Serials) ->
     }
 }
 
-/// Adds the record of the next new object. The place of the serials behind its own.
+/// NotesObject the record of the next new object. The place of the serials behind its own.
 fn add_record(
     alloc: Global,
     ask: &LoadAsk,

@@ -2,18 +2,17 @@
 
 ghost use Rattle.std.specs.Prelude.{◌≡◌, ◌++◌, ◌∷◌, [], OnOk, IfOk};
 
+use crate::arrivals::Arrivals;
 use crate::ask::{LoadAsk, LoadFault};
 use crate::finding::Finding;
 use crate::missed::Missed;
-use ld_base::{DlFault, Name, Names, Sequence, Serial, Serials};
-use scope_rule::{Arrival, Namespace};
+use crate::objects_there::ObjectsThere;
+use ld_base::{DlFault, Name, Names, Serial, Serials};
+use scope_rule::Arrival;
 use std::alloc::{AllocError, Global};
 
 /// Serials stay below this number.
 const SERIAL_LIMIT: u64 = 1 << 62;
-
-/// New objects, in the order in which they came.
-pub type Arrivals = Sequence<Arrival>;
 
 /// A load part way.
 #[derive(Drop)]
@@ -78,14 +77,19 @@ impl Walker {
 
     /// What comes next.
     #[tactic(auto, using(crate::proofs::Walkers::looks_missing))]
-    pub fn look(&self, alloc: Global, ns: &Namespace, ask: &LoadAsk) -> Result<Next, LoadFault>
-        requires { IsWalker ask.now ns.now.objects self.now }
-        ensures { Looks ask.now ns.now.objects self.now result }
+    pub fn look(
+        &self,
+        alloc: Global,
+        there: &ObjectsThere,
+        ask: &LoadAsk,
+    ) -> Result<Next, LoadFault>
+        requires { IsWalker ask.now there.now self.now }
+        ensures { Looks ask.now there.now self.now result }
     {
         let Some(name) = self.next_name() else {
             return Ok(Next::Done);
         };
-        match self.find(alloc, ns, ask, name.as_bytes())? {
+        match self.find(alloc, there, ask, name.as_bytes())? {
             Finding::Found(serial) => Ok(Next::Found(serial)),
             Finding::Read(path) => Ok(Next::Read(path)),
             Finding::Nowhere => {
@@ -114,7 +118,7 @@ impl Walker {
         }
     }
 
-    /// Adds the names that one more new object asks for.
+    /// NotesObject the names that one more new object asks for.
     fn add_names(
         &mut self,
         alloc: Global,
@@ -129,7 +133,7 @@ impl Walker {
         append_names(alloc, &mut self.names, arrival.object.needed.as_slice())
     }
 
-    /// Adds the serial of a new object, which the next name found, and the names that it asks for.
+    /// NotesObject the serial of a new object, which the next name found, and the names that it asks for.
     fn announce(
         &mut self,
         alloc: Global,
@@ -157,7 +161,7 @@ impl Walker {
     {
         // The object goes into the list in any case, so that no exit drops it here.
         let announced = self.announce(alloc, ask, &arrival);
-        self.arrivals.push(arrival)?;
+        self.arrivals.push(alloc, arrival)?;
         announced
     }
 }

@@ -17,8 +17,8 @@ returns-in-Err-Failed g c = λ there first stage to_read.
     let h = c.in-Err-Failed.ensures in
     faulted_failed _ _ _ _ _ _ stage _ c.args.path (record { files = h.files; faults = h.faults; misses = h.misses }) (h.failed (ap Err c.in-Err-Failed.field-0-is)) to_read
 
-pub returns-in-Ok : goal.returns-in-Ok
-returns-in-Ok g c = λ there first stage to_read.
+pub returns-in_ok-file-in-Ok : goal.returns-in_ok-file-in-Ok
+returns-in_ok-file-in-Ok g c = λ there first stage to_read.
     let h = c.in-Ok.ensures in
-    bytes_taken _ _ _ _ _ _ stage _ c.args.path c.as_slice.result.now _ _ (record { files = h.files; faults = h.faults; misses = h.misses })
-    (tells_found _ c.args.path _ c.as_slice.result.now c.in-Ok.bytes c.as_bytes.ensures c.as_slice.ensures.value h.found) to_read c.take_bytes.ensures
+    bytes_taken _ _ _ _ _ _ stage _ c.args.path c.in_ok-file-in-Ok.file _ _ (record { files = h.files; faults = h.faults; misses = h.misses })
+    (tells_found _ c.args.path _ c.in_ok-file-in-Ok.file c.in-Ok.bytes c.as_bytes.ensures c.in_ok-file-in-Ok.ensures.ok h.found) to_read c.take_file.ensures

@@ -6,4 +6,4 @@ use Rattle.load_walk.proofs.lookup.NamePlaces.of.Given as goal
 
 -- the places are those of the names so far
 abbrev pub invariant-loop-place : goal.invariant-loop-place
-invariant-loop-place l = (bytes : List ℕ) → place_of l.firsts.entries bytes ≡ position (λ name. bytes_eq name bytes) (take l.place l.names)
+invariant-loop-place l = (bytes : List ℕ) → place_of l.places.firsts.entries bytes ≡ position (λ name. bytes_eq name bytes) (take l.place l.names)

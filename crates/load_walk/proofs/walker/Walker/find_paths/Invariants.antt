@@ -8,4 +8,4 @@ use Rattle.load_walk.proofs.walker.Walker.find_paths.Given as goal
 -- the paths so far lead nowhere
 abbrev pub invariant-loop-path : goal.invariant-loop-path
 invariant-loop-path l = (reading : List ℕ → Reading) → Agrees reading l.self →
-    find_paths (load_of l.ask l.ns.objects reading) l.self.arrivals (drop l.path-index l.paths) ≡ find_paths (load_of l.ask l.ns.objects reading) l.self.arrivals l.paths
+    find_paths (load_of l.ask l.there reading) l.self.arrivals (drop l.path-index l.paths) ≡ find_paths (load_of l.ask l.there reading) l.self.arrivals l.paths
