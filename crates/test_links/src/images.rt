@@ -8,8 +8,8 @@ ghost use Rattle.relocator.specs.Example.{bytes_of_data, defined, example, examp
 ghost use Rattle.relocator.specs.Example.{lazily, own, symbol, undefined};
 
 use ld_base::{
-    Bytes, Choice, Kind, Name, ObjFlags, Object, Reloc, Segment, Serial, SharedList, SharedSymbols,
-    Span, Symbol, Symbols,
+    Bytes, Choice, Kind, Name, ObjFlags, Object, Reloc, Segment, Serial, SharedBytes, SharedList,
+    SharedSymbols, Span, Symbol, Symbols,
 };
 use relocator::{Binding, Bindings, ModulePlace, TlsPlaces, relocate, worked_example};
 use seg_image::{Image, make_image};
@@ -114,7 +114,7 @@ fn segments(alloc: Global) -> Result<SharedList<Segment>, AllocError>
         memsz: 24,
         flags: 5,
         align: 0x1000,
-        bytes: Bytes::from_slice(
+        bytes: SharedBytes::copy_from_slice(
             alloc,
             &[
                 0x13, 0, 0, 0, 0, 0, 0, 0, 0x67, 0x80, 0, 0, 0, 0, 0, 0, 0x73, 0, 0, 0, 0, 0, 0, 0,
@@ -131,10 +131,10 @@ fn segments(alloc: Global) -> Result<SharedList<Segment>, AllocError>
     SharedList::new(alloc, segments)
 }
 
-fn data_bytes(alloc: Global) -> Result<Bytes, AllocError>
+fn data_bytes(alloc: Global) -> Result<SharedBytes, AllocError>
     ensures { IfOk result (λ b. b ≡ bytes_of_data) }
 {
-    Bytes::from_slice(
+    SharedBytes::copy_from_slice(
         alloc,
         &[
             0, 0, 0, 0, 0, 0, 0, 0, 0, 0, 0, 0, 0, 0, 0, 0, 0x10, 0x10, 0, 0, 0, 0, 0, 0, 0x10,

@@ -164,7 +164,7 @@ fn load(
 
 fn ask_of(alloc: Global, hart: HartId, program: bool) -> LoadAsk {
     LoadAsk {
-        name: Name::from(Vec::new(alloc)),
+        name: Name::empty(),
         folders: Names::new(alloc),
         preload: Names::new(alloc),
         hart,

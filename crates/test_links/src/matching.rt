@@ -114,7 +114,7 @@ pub fn told(alloc: Global, words: &mut Words) -> Result<String, Fault> {
     let (shndx, value) = (number16(words)?, words.number()?);
     let version = number16(words)?;
     let symbol = Symbol {
-        name: Name::from(Vec::new(alloc)),
+        name: Name::empty(),
         info,
         other,
         shndx,

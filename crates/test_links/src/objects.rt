@@ -97,7 +97,7 @@ fn state(word: &str) -> Result<State, Fault> {
 fn bare(alloc: Global, serial: Serial) -> Result<Loaded, AllocError> {
     Ok(Loaded {
         serial,
-        path: Name::from(Vec::new(alloc)),
+        path: Name::empty(),
         object: object_with(alloc, Symbols::new(alloc), Verdefs::new(alloc))?,
         table: HashTable {
             gnu: None,

@@ -1,4 +1,3 @@
-mod Entries
 mod Gaps
 mod Parts
 mod Residues
