@@ -113,6 +113,10 @@ impl<'a> Atlas<'a> {
     }
 
     /// The words of a line with a number from 0, or why it is refused.
+    ///
+    /// # Errors
+    ///
+    /// The first cause for which the line is refused.
     #[tactic(auto, unfolding(asm_layout::specs::Faults::fault_at, asm_layout::specs::Words::words_at))]
     pub fn judge(self, number: usize, line: &Line) -> Result<LineWords, AsmCause>
         requires { number < length self.places.now.lines }

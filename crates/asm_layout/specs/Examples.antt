@@ -14,6 +14,10 @@ use Rattle.asm_statement.specs.declared.instruction.Instruction.{Instruction}
 use Rattle.asm_statement.specs.declared.instruction.Instruction.TheVariants as instructions
 use Rattle.asm_statement.specs.declared.line.Statement.TheVariants as statements
 use Rattle.asm_statement.specs.declared.line.Line.{Line}
+use Rattle.asm_write.specs.declared.contents.Contents.{Contents}
+use Rattle.asm_write.specs.declared.starts.Starts.{Starts}
+use Rattle.asm_write.specs.Starts.{starts_of}
+use Rattle.asm_layout.specs.Contents.{contents_of}
 
 abbrev pub number : ℕ → Number
 number n = record { is_negative = false; magnitude = Some n }
@@ -61,6 +65,13 @@ library =
     says directives.Relr ∷ says (directives.Section sections.Tdata) ∷ at_label (codes "v") (says (directives.Dword (doublewords.Number (number 7)))) ∷
     says (directives.Section sections.Text) ∷ at_label (codes "f") (does (instructions.Address addresses.LaTlsIe 10 (codes "v"))) ∷
     does (instructions.Plain plains.Ret) ∷ []
+
+-- what the library's object holds, and where its parts start
+abbrev pub library_contents : Contents
+library_contents = contents_of library
+
+abbrev pub library_starts : Starts
+library_starts = starts_of library_contents
 
 -- a: nop, twice; li a0, 0x100000000; j nowhere; a nop in .data
 abbrev pub twice : List Line

@@ -3,9 +3,7 @@
 ghost use Rattle.std.specs.Prelude.{◌≡◌, ◌++◌, ℤ, [], ◌∷◌, length, flat_map, replicate, Some, None, option_map, codes, Decides};
 ghost use Rattle.std.specs.Int.{w32, w64, to_le_bytes};
 ghost use Rattle.asm_statement.specs.declared.directive.Section.TheVariants as sections;
-ghost use Rattle.asm_write.specs.Starts.{starts_of};
 ghost use Rattle.asm_write.specs.Values.{symbol_bytes, gnu_bytes, rela_bytes, relr_bytes, fixed_bytes};
-ghost use Rattle.asm_layout.specs.Contents.{contents_of};
 ghost use Rattle.asm_layout.specs.Object.{plt_bytes, section_bytes};
 ghost use Rattle.rv_isa.specs.declared.instr.Instr.{Instr};
 ghost use Rattle.rv_isa.specs.Encoding.{HasForm};
@@ -14,7 +12,7 @@ ghost use Rattle.asm_write.specs.declared.part.Part.TheVariants as parts;
 ghost use Rattle.asm_statement.specs.declared.instruction.Instruction.{Instruction};
 ghost use Rattle.asm_layout.specs.Expansions.{expansion};
 ghost use Rattle.asm_layout.specs.Places.{words_in};
-ghost use Rattle.asm_layout.specs.Examples.{program, library, twice, too_great, nowhere, misplaced};
+ghost use Rattle.asm_layout.specs.Examples.{program, library, library_contents, library_starts, twice, too_great, nowhere, misplaced};
 ghost use Rattle.asm_layout.specs.Uses.{slots, imports};
 ghost use Rattle.asm_layout.specs.Parts.{start_of};
 ghost use Rattle.asm_write.specs.Relr.{relr_words};
@@ -62,16 +60,16 @@ pub fn worked_bytes()
     ensures plt { plt_bytes 0x1000 0x3000 1 ≡ flat_map (to_le_bytes w32) (
         0x00002397 ∷ 0x41c30333 ∷ 0x0003be03 ∷ 0xfd430313 ∷ 0x00038293 ∷ 0x00135313 ∷ 0x0082b283 ∷ 0x000e0067
         ∷ 0x00002e17 ∷ 0xff0e3e03 ∷ 0x000e0367 ∷ 0x00000013 ∷ []) }
-    ensures symbols { symbol_bytes (starts_of (contents_of library)) (contents_of library).symbols ≡ replicate 24 0
+    ensures symbols { symbol_bytes library_starts library_contents.symbols ≡ replicate 24 0
         ++ 3 ∷ 0 ∷ 0 ∷ 0 ∷ 0x12 ∷ 0 ∷ 1 ∷ 0 ∷ 0 ∷ 0x10 ∷ 0 ∷ 0 ∷ 0 ∷ 0 ∷ 0 ∷ 0 ∷ 12 ∷ 0 ∷ 0 ∷ 0 ∷ 0 ∷ 0 ∷ 0 ∷ 0 ∷ [] }
-    ensures strings { (contents_of library).strings ≡ 0 ∷ codes "l" ++ 0 ∷ codes "f" ++ 0 ∷ [] }
-    ensures gnu { option_map gnu_bytes (contents_of library).gnu ≡ Some (flat_map (to_le_bytes w32) (
+    ensures strings { library_contents.strings ≡ 0 ∷ codes "l" ++ 0 ∷ codes "f" ++ 0 ∷ [] }
+    ensures gnu { option_map gnu_bytes library_contents.gnu ≡ Some (flat_map (to_le_bytes w32) (
         1 ∷ 1 ∷ 1 ∷ 6 ∷ 0x01000800 ∷ 0 ∷ 1 ∷ 0x2b60b ∷ [])) }
-    ensures rela { rela_bytes (starts_of (contents_of library)) (contents_of library).fixes ≡ flat_map (to_le_bytes w64) (0x20f0 ∷ 11 ∷ 0 ∷ []) }
-    ensures relr { relr_bytes (starts_of (contents_of library)) (contents_of library).fixes ≡ to_le_bytes w64 0x20f8 }
-    ensures init { fixed_bytes (starts_of (contents_of library)) (contents_of library).fixes parts.InitArray ≡ to_le_bytes w64 0x1000 }
-    ensures tdata { section_bytes library (starts_of (contents_of library)) sections.Tdata ≡ 7 ∷ replicate 7 0 }
-    ensures text { section_bytes library (starts_of (contents_of library)) sections.Text
+    ensures rela { rela_bytes library_starts library_contents.fixes ≡ flat_map (to_le_bytes w64) (0x20f0 ∷ 11 ∷ 0 ∷ []) }
+    ensures relr { relr_bytes library_starts library_contents.fixes ≡ to_le_bytes w64 0x20f8 }
+    ensures init { fixed_bytes library_starts library_contents.fixes parts.InitArray ≡ to_le_bytes w64 0x1000 }
+    ensures tdata { section_bytes library library_starts sections.Tdata ≡ 7 ∷ replicate 7 0 }
+    ensures text { section_bytes library library_starts sections.Text
         ≡ flat_map (to_le_bytes w32) (0x00001517 ∷ 0x0f053503 ∷ 0x00008067 ∷ []) }
 {}
 

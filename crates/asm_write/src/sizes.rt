@@ -8,7 +8,7 @@ ghost use Rattle.asm_write.specs.Starts.{tls_start_align, align_of, plain_extent
 use crate::contents::{Contents, Extent, Sections};
 use crate::dynamic::{count_in, dynamic_entries, listed_count, segments_of};
 use crate::part::Part;
-use ld_base::{GnuPart, Sequence, SysvPart};
+use ld_base::{GnuPart, SysvPart};
 use std::alloc::{AllocError, Global};
 
 /// The bytes of a page.

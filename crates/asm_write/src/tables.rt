@@ -3,11 +3,11 @@
 ghost use Rattle.std.specs.Prelude.{◌≡◌, ◌++◌, ◌%◌, ◌^◌, OnOk, IfOk, flat_map};
 ghost use Rattle.std.specs.Int.{w64, to_le_bytes};
 ghost use Rattle.asm_write.specs.Fields.{record_bytes};
-ghost use Rattle.asm_write.specs.Records.{version_fields, rela_fields, symbol_fields};
+ghost use Rattle.asm_write.specs.Records.{version_fields, need_fields, needed_fields, rela_fields, symbol_fields};
 ghost use Rattle.asm_write.specs.Values.{words, doublewords, count_word, gnu_bytes, sysv_bytes, symbol_bytes, versym_bytes};
 ghost use Rattle.asm_write.specs.Values.{verneed_bytes, listed_bytes, rela_bytes, jmprel_bytes, word_in, fixed_bytes, lazy_words, slot_words};
 
-use crate::contents::{Contents, Fix, NeedRecord, NeededVersion, SymbolEntry, VersionRecord, Way};
+use crate::contents::{Fix, NeedRecord, NeededVersion, SymbolEntry, VersionRecord, Way};
 use crate::field::append_record;
 use crate::part::Part;
 use crate::records::{
@@ -120,6 +120,26 @@ pub(crate) fn verdef_bytes(alloc: Global, versions: &[VersionRecord]) -> Result<
     Ok(out)
 }
 
+/// Appends the records of files of which versions are needed.
+fn append_files(out: &mut Vec<u8>, files: &[NeedRecord]) -> Result<(), AllocError>
+    ensures { OnOk result (out.new.items ≡ out.old.items ++ flat_map (λ need. record_bytes (need_fields need)) files.now) }
+{
+    for file in files {
+        append_record(out, &need_fields(file))?;
+    }
+    Ok(())
+}
+
+/// Appends the records of versions that are needed.
+fn append_needed(out: &mut Vec<u8>, versions: &[NeededVersion]) -> Result<(), AllocError>
+    ensures { OnOk result (out.new.items ≡ out.old.items ++ flat_map (λ version. record_bytes (needed_fields version)) versions.now) }
+{
+    for version in versions {
+        append_record(out, &needed_fields(version))?;
+    }
+    Ok(())
+}
+
 /// The versions that the object needs: the files, then their versions.
 #[tactic(auto, unfolding(crate::specs::Values::verneed_bytes))]
 pub(crate) fn verneed_bytes(
@@ -130,12 +150,8 @@ pub(crate) fn verneed_bytes(
     ensures { IfOk result (λ bytes. bytes.items ≡ verneed_bytes files.now versions.now) }
 {
     let mut out = Vec::new(alloc);
-    for file in files {
-        append_record(&mut out, &need_fields(file))?;
-    }
-    for version in versions {
-        append_record(&mut out, &needed_fields(version))?;
-    }
+    append_files(&mut out, files)?;
+    append_needed(&mut out, versions)?;
     Ok(out)
 }
 

@@ -16,6 +16,7 @@ use Rattle.history_event.specs.declared.event.OpenAsk.{OpenAsk}
 use Rattle.history_event.specs.declared.event.SymAnswer.{SymAnswer}
 use Rattle.history_event.specs.declared.event.SymAnswer.TheVariants as syms
 use Rattle.history_event.specs.declared.event.SymAsk.{SymAsk}
+use Rattle.history_event.specs.declared.hart_end.HartEnd.{HartEnd}
 use Rattle.trace_text.specs.Said.{said, hart_word, object_word}
 use Rattle.trace_text.specs.Lists.{added_text, byte_digits, serials_text}
 use Rattle.trace_text.specs.Ends.{end_text}
@@ -85,24 +86,60 @@ told_text hart None = said (codes "told" ∷ hart_word hart ∷ []) (45 ∷ [])
 abbrev pub unmapped_text : ℕ → List ℕ → List ℕ
 unmapped_text hart set = said (codes "unmapped" ∷ hart_word hart ∷ []) (codes "set=" ++ serials_text set)
 
+abbrev pub close_text : ℕ → ℕ → CloseAnswer → List ℕ
+close_text hart handle answer = said (codes "close" ∷ hart_word hart ∷ (codes "handle=" ++ hex_text handle) ∷ []) (close_answer_text answer)
+
+abbrev pub grant_text : ℕ → ℕ → ℕ → ℕ → Choice → ℕ → List ℕ
+grant_text grant hart owner slot choice value =
+    said (codes "grant" ∷ grant_word grant ∷ hart_word hart ∷ object_word owner ∷ slot_word slot ∷ codes "->" ∷ []) (granted_text choice value)
+
+abbrev pub bound_text : ℕ → List ℕ
+bound_text grant = said (codes "bound" ∷ []) (grant_word grant)
+
+abbrev pub lost_text : ℕ → ℕ → List ℕ
+lost_text grant saw = said (codes "lost" ∷ grant_word grant ∷ []) (codes "saw=" ++ hex_text saw)
+
+abbrev pub unresolved_event_text : ℕ → ℕ → ℕ → Choice → List ℕ
+unresolved_event_text hart owner slot choice =
+    said (codes "unresolved" ∷ hart_word hart ∷ object_word owner ∷ slot_word slot ∷ []) (unresolved_text choice)
+
+-- for the writer of this crate alone: an event of a slot; of any other nothing
+abbrev pub slot_event_text : Event → List ℕ
+slot_event_text (events.Grant grant hart owner slot choice value) = grant_text grant hart owner slot choice value
+slot_event_text (events.Bound grant) = bound_text grant
+slot_event_text (events.Lost grant saw) = lost_text grant saw
+slot_event_text (events.Unresolved hart owner slot choice) = unresolved_event_text hart owner slot choice
+slot_event_text other = []
+
+abbrev pub block_text : ℕ → ℕ → ℕ → List ℕ
+block_text hart owner address = said (codes "tls" ∷ hart_word hart ∷ object_word owner ∷ []) (hex_text address)
+
+-- that a hart ran an object's constructors, or its destructors
+abbrev pub ran_text : List ℕ → ℕ → ℕ → List ℕ
+ran_text which hart object = said (which ∷ hart_word hart ∷ []) (object_word object)
+
+abbrev pub wrote_text : ℕ → List ℕ → List ℕ
+wrote_text hart bytes = said (codes "wrote" ∷ hart_word hart ∷ (codes "n=" ++ decimal (length bytes)) ∷ []) (flat_map byte_digits bytes)
+
+abbrev pub ended_text : ℕ → HartEnd → List ℕ
+ended_text hart end = said (codes "ended" ∷ hart_word hart ∷ []) (end_text end)
+
 -- an event, without the line feed
 unfoldable pub words_text : Event → List ℕ
 words_text (events.Open hart ask answer) = open_text hart ask answer
-words_text (events.Close hart handle answer) = said (codes "close" ∷ hart_word hart ∷ (codes "handle=" ++ hex_text handle) ∷ []) (close_answer_text answer)
+words_text (events.Close hart handle answer) = close_text hart handle answer
 words_text (events.Unmapped hart set) = unmapped_text hart set
-words_text (events.Grant grant hart owner slot choice value) =
-    said (codes "grant" ∷ grant_word grant ∷ hart_word hart ∷ object_word owner ∷ slot_word slot ∷ codes "->" ∷ []) (granted_text choice value)
-words_text (events.Bound grant) = said (codes "bound" ∷ []) (grant_word grant)
-words_text (events.Lost grant saw) = said (codes "lost" ∷ grant_word grant ∷ []) (codes "saw=" ++ hex_text saw)
-words_text (events.Unresolved hart owner slot choice) =
-    said (codes "unresolved" ∷ hart_word hart ∷ object_word owner ∷ slot_word slot ∷ []) (unresolved_text choice)
+words_text (events.Grant grant hart owner slot choice value) = grant_text grant hart owner slot choice value
+words_text (events.Bound grant) = bound_text grant
+words_text (events.Lost grant saw) = lost_text grant saw
+words_text (events.Unresolved hart owner slot choice) = unresolved_event_text hart owner slot choice
 words_text (events.Sym hart ask answer) = sym_text hart ask answer
-words_text (events.Tls hart owner address) = said (codes "tls" ∷ hart_word hart ∷ object_word owner ∷ []) (hex_text address)
-words_text (events.Init hart object) = said (codes "init" ∷ hart_word hart ∷ []) (object_word object)
-words_text (events.Fini hart object) = said (codes "fini" ∷ hart_word hart ∷ []) (object_word object)
-words_text (events.Wrote hart bytes) = said (codes "wrote" ∷ hart_word hart ∷ (codes "n=" ++ decimal (length bytes)) ∷ []) (flat_map byte_digits bytes)
+words_text (events.Tls hart owner address) = block_text hart owner address
+words_text (events.Init hart object) = ran_text (codes "init") hart object
+words_text (events.Fini hart object) = ran_text (codes "fini") hart object
+words_text (events.Wrote hart bytes) = wrote_text hart bytes
 words_text (events.Told hart fault) = told_text hart fault
-words_text (events.Ended hart end) = said (codes "ended" ∷ hart_word hart ∷ []) (end_text end)
+words_text (events.Ended hart end) = ended_text hart end
 
 -- a line ends in a line feed
 abbrev pub line_text : Event → List ℕ

@@ -3,12 +3,13 @@
 ghost use Rattle.std.specs.Prelude.{◌≡◌, ◌++◌, IfOk, OnOk, Some};
 ghost use Rattle.std.specs.String.{string_bytes};
 ghost use Rattle.ld_base.specs.Text.{name_or_none};
-ghost use Rattle.trace_text.specs.Lines.{IsSayable, asked_text, close_answer_text, granted_text, line_text, open_answer_text, open_text};
-ghost use Rattle.trace_text.specs.Lines.{sym_answer_text, sym_text, told_text, unmapped_text, unresolved_text, words_text};
+ghost use Rattle.trace_text.specs.Lines.{IsSayable, asked_text, block_text, close_answer_text, close_text, ended_text, granted_text, line_text};
+ghost use Rattle.trace_text.specs.Lines.{open_answer_text, open_text, ran_text, slot_event_text, sym_answer_text, sym_text, told_text, unmapped_text};
+ghost use Rattle.trace_text.specs.Lines.{unresolved_event_text, unresolved_text, words_text, wrote_text};
 
 use crate::ends::EndText;
 use crate::lists::{write_added, write_bytes, write_serials};
-use history_event::{CloseAnswer, Event, OpenAnswer, OpenAsk, SymAnswer, SymAsk};
+use history_event::{CloseAnswer, Event, HartEnd, OpenAnswer, OpenAsk, SymAnswer, SymAsk};
 use ld_base::{Choice, DlFault, HartId, Name, Serial};
 use std::alloc::{AllocError, Global};
 use std::fmt;
@@ -120,12 +121,29 @@ fn write_words(text: &mut String, event: &Event) -> Result<(), AllocError>
             hart,
             handle,
             answer,
-        } => {
-            let hart = hart.number();
-            write!(text, "close h={hart} handle=0x{handle:x} ")?;
-            write_close_answer(text, answer)
-        }
+        } => write_close(text, *hart, *handle, answer),
         Event::Unmapped { hart, set } => write_unmapped(text, *hart, set.as_slice()),
+        Event::Grant { .. } | Event::Bound { .. } | Event::Lost { .. } | Event::Unresolved { .. } =>
+            write_of_slot(text, event),
+        Event::Sym { hart, ask, answer } => write_sym(text, *hart, ask, answer),
+        Event::Tls {
+            hart,
+            owner,
+            address,
+        } => write_block(text, *hart, *owner, *address),
+        Event::Init { hart, object } => write_ran(text, "init", *hart, *object),
+        Event::Fini { hart, object } => write_ran(text, "fini", *hart, *object),
+        Event::Wrote { hart, bytes } => write_wrote(text, *hart, bytes.as_slice()),
+        Event::Told { hart, fault } => write_told(text, *hart, fault),
+        Event::Ended { hart, end } => write_ended(text, *hart, *end),
+    }
+}
+
+/// Writes an event that is of a slot, and nothing of any other.
+fn write_of_slot(text: &mut String, event: &Event) -> Result<(), AllocError>
+    ensures { OnOk result (string_bytes text.new ≡ string_bytes text.old ++ slot_event_text event.now) }
+{
+    match event {
         Event::Grant {
             grant,
             hart,
@@ -154,40 +172,63 @@ fn write_words(text: &mut String, event: &Event) -> Result<(), AllocError>
             owner,
             slot,
             choice,
-        } => {
-            let (hart, owner) = (hart.number(), owner.number());
-            let refused = Refused(*choice);
-            write!(text, "unresolved h={hart} o={owner} slot={slot} {refused}")
-        }
-        Event::Sym { hart, ask, answer } => write_sym(text, *hart, ask, answer),
-        Event::Tls {
-            hart,
-            owner,
-            address,
-        } => {
-            let (hart, owner) = (hart.number(), owner.number());
-            write!(text, "tls h={hart} o={owner} 0x{address:x}")
-        }
-        Event::Init { hart, object } => {
-            let (hart, object) = (hart.number(), object.number());
-            write!(text, "init h={hart} o={object}")
-        }
-        Event::Fini { hart, object } => {
-            let (hart, object) = (hart.number(), object.number());
-            write!(text, "fini h={hart} o={object}")
-        }
-        Event::Wrote { hart, bytes } => {
-            let (hart, count) = (hart.number(), bytes.len());
-            write!(text, "wrote h={hart} n={count} ")?;
-            write_bytes(text, bytes.as_slice())
-        }
-        Event::Told { hart, fault } => write_told(text, *hart, fault),
-        Event::Ended { hart, end } => {
-            let hart = hart.number();
-            let end = EndText(*end);
-            write!(text, "ended h={hart} {end}")
-        }
+        } => write_unresolved(text, *hart, *owner, *slot, *choice),
+        _ => Ok(()),
     }
+}
+
+/// Writes that a slot gets nothing.
+fn write_unresolved(
+    text: &mut String,
+    hart: HartId,
+    owner: Serial,
+    slot: u32,
+    choice: Choice,
+) -> Result<(), AllocError>
+    ensures { OnOk result (string_bytes text.new ≡ string_bytes text.old ++ unresolved_event_text hart owner slot choice) }
+{
+    let (hart, owner) = (hart.number(), owner.number());
+    let refused = Refused(choice);
+    write!(text, "unresolved h={hart} o={owner} slot={slot} {refused}")
+}
+
+/// Writes that a hart got a block of thread-local storage.
+fn write_block(
+    text: &mut String,
+    hart: HartId,
+    owner: Serial,
+    address: u64,
+) -> Result<(), AllocError>
+    ensures { OnOk result (string_bytes text.new ≡ string_bytes text.old ++ block_text hart owner address) }
+{
+    let (hart, owner) = (hart.number(), owner.number());
+    write!(text, "tls h={hart} o={owner} 0x{address:x}")
+}
+
+/// Writes that a hart ran an object's constructors or destructors.
+fn write_ran(text: &mut String, which: &str, hart: HartId, object: Serial) -> Result<(), AllocError>
+    ensures { OnOk result (string_bytes text.new ≡ string_bytes text.old ++ ran_text which.now hart object) }
+{
+    let (hart, object) = (hart.number(), object.number());
+    write!(text, "{which} h={hart} o={object}")
+}
+
+/// Writes what a hart wrote.
+fn write_wrote(text: &mut String, hart: HartId, bytes: &[u8]) -> Result<(), AllocError>
+    ensures { OnOk result (string_bytes text.new ≡ string_bytes text.old ++ wrote_text hart bytes.now) }
+{
+    let (hart, count) = (hart.number(), bytes.len());
+    write!(text, "wrote h={hart} n={count} ")?;
+    write_bytes(text, bytes)
+}
+
+/// Writes how a hart ended.
+fn write_ended(text: &mut String, hart: HartId, end: HartEnd) -> Result<(), AllocError>
+    ensures { OnOk result (string_bytes text.new ≡ string_bytes text.old ++ ended_text hart end) }
+{
+    let hart = hart.number();
+    let end = EndText(end);
+    write!(text, "ended h={hart} {end}")
 }
 
 /// Writes an opening.
@@ -225,6 +266,20 @@ fn write_open_answer(text: &mut String, answer: &OpenAnswer) -> Result<(), Alloc
         OpenAnswer::Absent => write!(text, "absent"),
         OpenAnswer::Refused(fault) => write!(text, "no {fault}"),
     }
+}
+
+/// Writes a closing.
+fn write_close(
+    text: &mut String,
+    hart: HartId,
+    handle: u64,
+    answer: &CloseAnswer,
+) -> Result<(), AllocError>
+    ensures { OnOk result (string_bytes text.new ≡ string_bytes text.old ++ close_text hart handle answer.now) }
+{
+    let hart = hart.number();
+    write!(text, "close h={hart} handle=0x{handle:x} ")?;
+    write_close_answer(text, answer)
 }
 
 fn write_close_answer(text: &mut String, answer: &CloseAnswer) -> Result<(), AllocError>

@@ -12,6 +12,7 @@ use Rattle.history_event.specs.declared.event.OpenAsk.{OpenAsk}
 use Rattle.history_event.specs.declared.event.SymAnswer.{SymAnswer}
 use Rattle.history_event.specs.declared.event.SymAnswer.TheVariants as syms
 use Rattle.history_event.specs.declared.event.SymAsk.{SymAsk}
+use Rattle.history_event.specs.declared.hart_end.HartEnd.{HartEnd}
 use Rattle.history_event.specs.declared.event_line.EventLine.{EventLine}
 use Rattle.history_event.specs.declared.event_line.EventLine.TheVariants as lines
 use Rattle.history_event.specs.declared.event_line.NewLine.{NewLine}
@@ -142,23 +143,42 @@ ran_words members which object = codes "ran the " ++ which ++ codes " of " ++ ob
 unfoldable pub saw_words : ℕ → ℕ → List ℕ
 saw_words grant saw = codes "grant " ++ decimal grant ++ codes " is lost to " ++ hex_text saw
 
+abbrev pub unmapped_words : List Member → ℕ → List ℕ → List ℕ
+unmapped_words members hart set = by_hart hart (codes "unmapped " ++ objects_text members set)
+
+abbrev pub wrote_words : ℕ → List ℕ → List ℕ
+wrote_words hart bytes = by_hart hart (codes "wrote " ++ quoted bytes)
+
+abbrev pub ended_words : ℕ → HartEnd → List ℕ
+ended_words hart end = by_hart hart (codes "ended: " ++ end_text end)
+
+abbrev pub binding_words : ℕ → List ℕ
+binding_words grant = codes "grant " ++ decimal grant ++ codes " is bound"
+
+-- for the writer of this crate alone: what an event of a slot says by itself; of any other nothing
+abbrev pub slot_event_words : List Member → EventLine → List ℕ
+slot_event_words members (lines.Grant grant hart owner slot choice value) = by_hart hart (calls_words members owner slot choice value)
+slot_event_words members (lines.Bound grant) = binding_words grant
+slot_event_words members (lines.Lost grant saw) = saw_words grant saw
+slot_event_words members (lines.Unresolved hart owner slot choice) = refused_words members hart owner slot choice
+slot_event_words members other = []
+
 -- what an event says by itself
 unfoldable pub event_words : List Member → EventLine → List ℕ
 event_words members (lines.Open hart ask answer) = open_words members hart ask answer
 event_words members (lines.Close hart handle answer) = close_words members hart handle answer
-event_words members (lines.Unmapped hart set) = by_hart hart (codes "unmapped " ++ objects_text members set)
-event_words members (lines.Grant grant hart owner slot choice value) =
-    by_hart hart (calls_words members owner slot choice value)
-event_words members (lines.Bound grant) = codes "grant " ++ decimal grant ++ codes " is bound"
+event_words members (lines.Unmapped hart set) = unmapped_words members hart set
+event_words members (lines.Grant grant hart owner slot choice value) = by_hart hart (calls_words members owner slot choice value)
+event_words members (lines.Bound grant) = binding_words grant
 event_words members (lines.Lost grant saw) = saw_words grant saw
 event_words members (lines.Unresolved hart owner slot choice) = refused_words members hart owner slot choice
 event_words members (lines.Sym hart ask answer) = sym_words members hart ask answer
 event_words members (lines.Tls hart owner address) = by_hart hart (block_words members owner address)
 event_words members (lines.Init hart object) = by_hart hart (ran_words members (codes "constructors") object)
 event_words members (lines.Fini hart object) = by_hart hart (ran_words members (codes "destructors") object)
-event_words members (lines.Wrote hart bytes) = by_hart hart (codes "wrote " ++ quoted bytes)
+event_words members (lines.Wrote hart bytes) = wrote_words hart bytes
 event_words members (lines.Told hart fault) = told_words hart fault
-event_words members (lines.Ended hart end) = by_hart hart (codes "ended: " ++ end_text end)
+event_words members (lines.Ended hart end) = ended_words hart end
 
 -- what settles a grant is told by that grant, where it is known
 abbrev pub settled_words : List Member → EventLine → Made → List ℕ

@@ -9,7 +9,7 @@ ghost use Rattle.trace_view.specs.Picture.{size_text, stroke_text, colour_of, cu
 ghost use Rattle.trace_view.specs.Picture.{lane_text, lanes_of, line_text, mark_text, picture_text, row_text, start_text, with_hart, x_of, xml_byte};
 ghost use Rattle.trace_view.specs.Picture.{y_of};
 
-use crate::journal::{Journal, Made, Step};
+use crate::journal::Step;
 use crate::members::Member;
 use crate::words::write_words;
 use history_event::EventLine;

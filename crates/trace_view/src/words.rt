@@ -5,13 +5,13 @@ ghost use Rattle.std.specs.String.{string_bytes};
 ghost use Rattle.trace_view.specs.Words.{asked_name, asked_words, block_words, bound_to_words, chosen_words, value_words, gets_words, its_call_words};
 ghost use Rattle.trace_view.specs.Words.{no_code_words, through_words, bound_words, by_hart, calls_words, cannot_words, found_words, last_words};
 ghost use Rattle.trace_view.specs.Words.{ran_words, saw_words, close_answer_words, close_words, event_words, lost_words, open_words, place_words};
-ghost use Rattle.trace_view.specs.Words.{refused_words, sym_words};
+ghost use Rattle.trace_view.specs.Words.{ended_words, refused_words, slot_event_words, sym_words, unmapped_words, wrote_words};
 ghost use Rattle.trace_view.specs.Words.{step_words, sym_answer_words, told_words, version_words, open_answer_words, words_text};
 
 use crate::journal::{Journal, Made, Step};
 use crate::members::Member;
 use crate::names::{ChoiceName, HandleName, NewNames, ObjectName, ObjectNames, Quoted, SlotName};
-use history_event::{CloseAnswer, EventLine, OpenAsk, OpenLine, SymAnswer, SymAsk};
+use history_event::{CloseAnswer, EventLine, HartEnd, OpenAsk, OpenLine, SymAnswer, SymAsk};
 use ld_base::{Choice, DlFault, GrantNo, HartId, Name, Serial};
 use std::alloc::{AllocError, Global};
 use std::fmt;
@@ -75,14 +75,39 @@ fn write_event(text: &mut String, members: &[Member], event: &EventLine) -> Resu
             handle,
             answer,
         } => write_close(text, members, *hart, *handle, answer),
-        EventLine::Unmapped { hart, set } => {
-            let hart = hart.number();
-            let set = ObjectNames {
-                members,
-                serials: set.as_slice(),
-            };
-            write!(text, "hart {hart} unmapped {set}")
+        EventLine::Unmapped { hart, set } => write_unmapped(text, members, *hart, set.as_slice()),
+        EventLine::Grant { .. }
+        | EventLine::Bound { .. }
+        | EventLine::Lost { .. }
+        | EventLine::Unresolved { .. } => write_of_slot(text, members, event),
+        EventLine::Sym { hart, ask, answer } => write_sym(text, members, *hart, ask, answer),
+        EventLine::Tls {
+            hart,
+            owner,
+            address,
+        } => {
+            write_hart(text, *hart)?;
+            write_block(text, members, *owner, *address)
         }
+        EventLine::Init { hart, object } => {
+            write_hart(text, *hart)?;
+            write_ran(text, members, "constructors", *object)
+        }
+        EventLine::Fini { hart, object } => {
+            write_hart(text, *hart)?;
+            write_ran(text, members, "destructors", *object)
+        }
+        EventLine::Wrote { hart, bytes } => write_wrote(text, *hart, bytes.as_slice()),
+        EventLine::Told { hart, fault } => write_told(text, *hart, fault),
+        EventLine::Ended { hart, end } => write_ended(text, *hart, *end),
+    }
+}
+
+/// Writes an event that is of a slot by itself, and nothing of any other.
+fn write_of_slot(text: &mut String, members: &[Member], event: &EventLine) -> Result<(), AllocError>
+    ensures { OnOk result (string_bytes text.new ≡ string_bytes text.old ++ slot_event_words members.now event.now) }
+{
+    match event {
         EventLine::Grant {
             hart,
             owner,
@@ -105,35 +130,40 @@ fn write_event(text: &mut String, members: &[Member], event: &EventLine) -> Resu
             slot,
             choice,
         } => write_unresolved(text, members, *hart, *owner, *slot, *choice),
-        EventLine::Sym { hart, ask, answer } => write_sym(text, members, *hart, ask, answer),
-        EventLine::Tls {
-            hart,
-            owner,
-            address,
-        } => {
-            write_hart(text, *hart)?;
-            write_block(text, members, *owner, *address)
-        }
-        EventLine::Init { hart, object } => {
-            write_hart(text, *hart)?;
-            write_ran(text, members, "constructors", *object)
-        }
-        EventLine::Fini { hart, object } => {
-            write_hart(text, *hart)?;
-            write_ran(text, members, "destructors", *object)
-        }
-        EventLine::Wrote { hart, bytes } => {
-            let hart = hart.number();
-            let bytes = Quoted(bytes.as_slice());
-            write!(text, "hart {hart} wrote {bytes}")
-        }
-        EventLine::Told { hart, fault } => write_told(text, *hart, fault),
-        EventLine::Ended { hart, end } => {
-            let hart = hart.number();
-            let end = EndText(*end);
-            write!(text, "hart {hart} ended: {end}")
-        }
+        _ => Ok(()),
     }
+}
+
+fn write_unmapped(
+    text: &mut String,
+    members: &[Member],
+    hart: HartId,
+    set: &[Serial],
+) -> Result<(), AllocError>
+    ensures { OnOk result (string_bytes text.new ≡ string_bytes text.old ++ unmapped_words members.now hart set.now) }
+{
+    let hart = hart.number();
+    let set = ObjectNames {
+        members,
+        serials: set,
+    };
+    write!(text, "hart {hart} unmapped {set}")
+}
+
+fn write_wrote(text: &mut String, hart: HartId, bytes: &[u8]) -> Result<(), AllocError>
+    ensures { OnOk result (string_bytes text.new ≡ string_bytes text.old ++ wrote_words hart bytes.now) }
+{
+    let hart = hart.number();
+    let bytes = Quoted(bytes);
+    write!(text, "hart {hart} wrote {bytes}")
+}
+
+fn write_ended(text: &mut String, hart: HartId, end: HartEnd) -> Result<(), AllocError>
+    ensures { OnOk result (string_bytes text.new ≡ string_bytes text.old ++ ended_words hart end) }
+{
+    let hart = hart.number();
+    let end = EndText(end);
+    write!(text, "hart {hart} ended: {end}")
 }
 
 fn write_hart(text: &mut String, hart: HartId) -> Result<(), AllocError>

@@ -165,6 +165,10 @@ impl<'a> Source<'a> {
     }
 
     /// The bytes of a section.
+    ///
+    /// # Errors
+    ///
+    /// Want of memory.
     pub fn section(
         self,
         alloc: Global,

@@ -39,6 +39,10 @@ pub fn is_name(text: &[u8]) -> bool
 }
 
 /// The name that is written so.
+///
+/// # Errors
+///
+/// Want of memory.
 pub fn name_of(alloc: Global, text: &[u8]) -> Result<Option<Name>, AllocError>
     ensures { IfOk result (λ n. n ≡ name text.now) }
 {
