@@ -1,5 +1,6 @@
 -- A search by halves among parts whose serials ascend.
 use Rattle.std.proofs.Common.{◌≡◌, ◌==◌, ℕ, ◌<◌, ◌≤◌, Bool, true, false, suc, zero, cond, List, [], ◌∷◌, Option, Some, None, Bor, length, drop, get_or, ltb, refl, sym, ap, ◌∙◌, arith}
+use Rattle.std.specs.Bool.{then_some}
 use Rattle.std.specs.List.{find, slice_get}
 use Rattle.std.specs.List.Sorted.{IsNonDecreasingBy, IsPartitionPoint}
 use Rattle.std.specs.Option.{option_copied}
@@ -12,6 +13,10 @@ use Rattle.link_images.specs.Parts.{serial_of}
 abbrev pub found_at : ℕ → Option Part → Option Part
 found_at serial None = None
 found_at serial (Some p) = cond (p.serial == serial) (Some p) None
+
+pub copied : (b : Bool) (x : Bor Part) → option_copied (then_some b x) ≡ cond b (Some x.now) None
+copied true x = refl
+copied false x = refl
 
 none_above : (serial : ℕ) (xs : List Part) → ((k : ℕ) (d : Part) → k < length xs → serial < serial_of (get_or xs k d)) → find (λ p. p.serial == serial) xs ≡ None
 none_above serial [] above = refl

@@ -136,11 +136,7 @@ fn found_by_halves(parts: &[Part], serial: Serial) -> Option<&Part>
     let Some(part) = rest.first() else {
         return None;
     };
-    if part.serial == serial {
-        Some(part)
-    } else {
-        None
-    }
+    (part.serial == serial).then_some(part)
 }
 
 /// The part of an object, in any order.

@@ -1,6 +1,7 @@
 //! The roots.
 
 ghost use Rattle.std.specs.Prelude.{◌≡◌, ◌++◌, filter, map, IfOk, OnOk};
+ghost use Rattle.std.specs.List.{flat_map};
 ghost use Rattle.history_state.specs.Links.{stays, staying_roots};
 ghost use Rattle.close_mark.specs.ClosingGraph.Graphs.{all_roots, is_left, left_roots, staying, touched};
 
@@ -25,13 +26,24 @@ pub fn roots_of(
     ensures { IfOk result (λ all. all.items ≡ all_roots namespaces.now handle fixed.now granted.now) }
 {
     let mut roots = Vec::from_slice(alloc, fixed)?;
-    for namespace in namespaces {
-        push_roots(alloc, &mut roots, namespace, handle)?;
-    }
-    for grant in granted {
-        push_granted(&mut roots, grant.owner, grant.choice)?;
-    }
+    push_all_roots(alloc, &mut roots, namespaces, handle)?;
+    push_all_granted(&mut roots, granted)?;
     Ok(roots)
+}
+
+/// Puts the roots of namespaces at the end.
+fn push_all_roots(
+    alloc: Global,
+    roots: &mut Vec<Serial>,
+    namespaces: &[Namespace],
+    handle: Serial,
+) -> Result<(), AllocError>
+    ensures { OnOk result (roots.new.items ≡ roots.old.items ++ flat_map (λ ns. left_roots handle ns.opens ++ staying ns.objects) namespaces.now) }
+{
+    for namespace in namespaces {
+        push_roots(alloc, roots, namespace, handle)?;
+    }
+    Ok(())
 }
 
 /// Puts the roots of a namespace at the end: of openings that are left, and objects that stay.
@@ -96,6 +108,16 @@ fn stays(object: &Loaded) -> bool
             State::Initialising(_) | State::Dying(_) => true,
             State::Ready => false,
         }
+}
+
+/// Puts what open grants name at the end.
+fn push_all_granted(roots: &mut Vec<Serial>, granted: &[Granting]) -> Result<(), AllocError>
+    ensures { OnOk result (roots.new.items ≡ roots.old.items ++ flat_map (λ g. touched g.owner g.choice) granted.now) }
+{
+    for grant in granted {
+        push_granted(roots, grant.owner, grant.choice)?;
+    }
+    Ok(())
 }
 
 /// Puts what an open grant names at the end: the slot's object, and the one whose definition was chosen.
