@@ -3,7 +3,7 @@ use Rattle.std.proofs.Common.{◌≡◌, ℕ, ◌==◌, Bool, true, false, not, 
 use Rattle.std.specs.Prelude.{option_map, find}
 use Rattle.std.specs.List.{filter}
 use Rattle.std.proofs.lemmas.Bool.{eqb-true, true≢false}
-use Rattle.tls_blocks.specs.declared.dtv.Entry.{Entry}
+use Rattle.tls_blocks.specs.declared.entry.Entry.{Entry}
 use Rattle.tls_blocks.specs.Blocks.{block_at}
 
 abbrev others : ℕ → List Entry → List Entry

@@ -4,7 +4,7 @@
 //! hart's turn comes to over the journal that the hart knows then (`specs/Serving.antt`, `specs/Finals.antt`).
 //! Between two turns a hart keeps what `specs/Between.antt` has: that what it heard is a legal history, that
 //! it fits it, where its calls stand, and which blocks of thread-local storage it keeps ([`HartBlocks`]).
-//! [`Opening`] names a run.
+//! [`RunNaming`] names a run.
 #![tactic(auto)]
 
 mod blocks;
@@ -13,4 +13,4 @@ mod linker;
 
 pub use blocks::HartBlocks;
 pub use finals::Beginning;
-pub use linker::{Linker, Opening};
+pub use linker::{Linker, RunNaming};

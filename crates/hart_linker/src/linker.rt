@@ -20,8 +20,9 @@ use std::marker::Brand;
 use std::sync::Wait;
 use word_memory::{HartSeat, Memory, Naming};
 
-/// What a run was given, its journal when its harts' seats were made, and what its library had counted then.
-pub trait Opening: Naming {
+/// Names a run: what it was given, its journal when its harts' seats were made, and what its library had
+/// counted then.
+pub trait RunNaming: Naming {
     ghost use Rattle.std.specs.Prelude.{List};
     ghost use Rattle.history_event.specs.declared.event.Event.{Event};
     ghost use Rattle.history_state.specs.Setting.{Setting};
@@ -34,7 +35,7 @@ pub trait Opening: Naming {
     ghost counts: { Counts };
 }
 
-impl Opening for Brand {
+impl RunNaming for Brand {
     ghost use Rattle.std.specs.Prelude.{[]};
     ghost use Rattle.hart_linker.specs.Naming.{no_counts, no_setting};
 
@@ -47,7 +48,7 @@ impl Opening for Brand {
 
 /// The linker of a run, which harts on threads share. What a hart brings to a call is a fact about what it
 /// has heard and its own state, which it has again behind the call.
-pub trait Linker<J: Opening> {
+pub trait Linker<J: RunNaming> {
     /// Takes a hart's turn that asks the linker: a call, one that waits still, or the turn in which the
     /// functions of an object of startup, of an opening or of a closing have run. Where memory is wanted
     /// the hart ends.

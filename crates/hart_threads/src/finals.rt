@@ -12,14 +12,14 @@ ghost use Rattle.word_rule.specs.declared.view.TrailItem.{TrailItem};
 
 use crate::run::HartRun;
 use hart_fits::running_is_not_over;
-use hart_linker::{Beginning, Linker, Opening};
+use hart_linker::{Beginning, Linker, RunNaming};
 use hart_moves::turns_append;
 use hart_trails::trails_grow;
 use history_event::{HartEnd, HartEntry};
 use std::sync::Wait;
 use word_memory::Memory;
 
-impl<J: Opening> HartRun<J> {
+impl<J: RunNaming> HartRun<J> {
     /// The first hart, which has ended once, goes on with the final destructors if every hart has ended by exit
     /// and an object is left. Answers the end that counts for it.
     pub fn finish<R: Wait, K: Linker<J>>(

@@ -13,7 +13,7 @@ ghost use Rattle.word_rule.specs.declared.view.HartView.{HartView};
 
 use crate::run::HartRun;
 use hart_fits::harts_fit;
-use hart_linker::{Linker, Opening};
+use hart_linker::{Linker, RunNaming};
 use hart_moves::turns_append;
 use hart_trails::trails_grow;
 use history_event::{HartEnd, HartEntry};
@@ -25,7 +25,7 @@ use word_memory::{HartSeat, Memory};
 const HARTS: usize = 16;
 
 /// Runs a hart until it has ended.
-fn run_one<R: Wait, J: Opening, K: Linker<J>>(
+fn run_one<R: Wait, J: RunNaming, K: Linker<J>>(
     rt: &R,
     linker: &K,
     memory: &Memory<J>,
@@ -38,7 +38,7 @@ fn run_one<R: Wait, J: Opening, K: Linker<J>>(
 }
 
 /// Runs harts side by side, each until it has ended. The first one's constructors of startup are over.
-fn run_all<R: Threads + Wait + Sync, J: Opening + Send + Sync, K: Linker<J> + Sync>(
+fn run_all<R: Threads + Wait + Sync, J: RunNaming + Send + Sync, K: Linker<J> + Sync>(
     rt: &R,
     linker: &K,
     memory: &Memory<J>,
@@ -54,7 +54,7 @@ fn run_all<R: Threads + Wait + Sync, J: Opening + Send + Sync, K: Linker<J> + Sy
 }
 
 /// Runs the first hart alone until startup's constructors are over.
-fn start_first<R: Wait, J: Opening, K: Linker<J>>(
+fn start_first<R: Wait, J: RunNaming, K: Linker<J>>(
     rt: &R,
     linker: &K,
     memory: &Memory<J>,
@@ -73,7 +73,7 @@ fn start_first<R: Wait, J: Opening, K: Linker<J>>(
 }
 
 /// Tells two harts of all events: they have heard of the same then.
-fn tell_both<R: Wait, J: Opening, K: Linker<J>>(
+fn tell_both<R: Wait, J: RunNaming, K: Linker<J>>(
     rt: &R,
     linker: &K,
     memory: &Memory<J>,
@@ -94,7 +94,7 @@ fn tell_both<R: Wait, J: Opening, K: Linker<J>>(
 }
 
 /// Tells harts of all events, and the first one with each of them: it has heard of all that they have then.
-fn tell_others<R: Wait, J: Opening, K: Linker<J>>(
+fn tell_others<R: Wait, J: RunNaming, K: Linker<J>>(
     rt: &R,
     linker: &K,
     memory: &Memory<J>,
@@ -118,7 +118,7 @@ fn tell_others<R: Wait, J: Opening, K: Linker<J>>(
 }
 
 /// Tells all harts of a run of events: the first one has heard of all that each other has then.
-fn tell_all<R: Wait, J: Opening, K: Linker<J>>(
+fn tell_all<R: Wait, J: RunNaming, K: Linker<J>>(
     rt: &R,
     linker: &K,
     memory: &Memory<J>,
@@ -140,7 +140,7 @@ fn tell_all<R: Wait, J: Opening, K: Linker<J>>(
 
 /// Tells harts of what the first one has done alone. It hears with the second one, and each other with that one: so
 /// they all have heard of what it has then.
-fn tell_begun<R: Wait, J: Opening, K: Linker<J>>(
+fn tell_begun<R: Wait, J: RunNaming, K: Linker<J>>(
     rt: &R,
     linker: &K,
     memory: &Memory<J>,
@@ -167,7 +167,7 @@ fn tell_begun<R: Wait, J: Opening, K: Linker<J>>(
 
 /// Starts the harts of a run: the first one runs alone until startup's constructors are over, or it has ended, and
 /// all are told of what it did. No other takes a turn.
-pub fn start_harts<R: Wait, J: Opening, K: Linker<J>>(
+pub fn start_harts<R: Wait, J: RunNaming, K: Linker<J>>(
     rt: &R,
     linker: &K,
     memory: &Memory<J>,
@@ -197,7 +197,7 @@ pub fn start_harts<R: Wait, J: Opening, K: Linker<J>>(
 /// Runs the harts of a run that were started, each to its end: all side by side, and then the first in the final
 /// destructors. Answers the end that counts for the first; each other has the one that it ended with. The first
 /// has heard of all that each other has.
-pub fn run_harts<R: Threads + Wait + Sync, J: Opening + Send + Sync, K: Linker<J> + Sync>(
+pub fn run_harts<R: Threads + Wait + Sync, J: RunNaming + Send + Sync, K: Linker<J> + Sync>(
     rt: &R,
     linker: &K,
     memory: &Memory<J>,

@@ -19,7 +19,7 @@ use crate::keeping::kept_block;
 use crate::next::{Next, holds_no_slot, next_turn};
 use crate::quiet::{end_of, take_quiet};
 use hart_fits::own_moves_fit;
-use hart_linker::{HartBlocks, Linker, Opening};
+use hart_linker::{HartBlocks, Linker, RunNaming};
 use hart_moves::{turns_append, turns_are_counted};
 use hart_seat::LinkedHart;
 use hart_trails::trails_grow;
@@ -29,13 +29,13 @@ use word_memory::{HartSeat, Memory};
 
 /// A hart of a run: its seat at memory, its registers and place, and the blocks that it keeps.
 #[derive(Drop)]
-pub struct HartRun<J: Opening> {
+pub struct HartRun<J: RunNaming> {
     pub seat: HartSeat<J>,
     pub hart: LinkedHart,
     pub blocks: HartBlocks,
 }
 
-impl<J: Opening> HartRun<J> {
+impl<J: RunNaming> HartRun<J> {
     /// Runs until the constructors of startup are over and no slot is held, or the hart has ended, at the latest for
     /// its fuel.
     pub fn start<R: Wait, K: Linker<J>>(&mut self, rt: &R, linker: &K, memory: &Memory<J>)

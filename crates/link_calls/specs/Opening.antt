@@ -1,7 +1,7 @@
 -- What openings of a linker's state come to (dlopen(3), dlmopen(3)).
 use Rattle.std.specs.Prelude.{◌≡◌, ℕ, List, Option, Some}
 use Rattle.std.specs.Option.{option_map}
-use Rattle.history_calls.specs.CallLaws.Coming.{Comes, IsOver, OpensWhole}
+use Rattle.history_calls.specs.CallLaws.Coming.{Comes, IsOver, OpensWhereItCan}
 use Rattle.history_journal.specs.Following.{machine_of}
 use Rattle.ld_base.specs.declared.linking.File.{File}
 use Rattle.library_source.specs.Count.{Rises}
@@ -25,7 +25,7 @@ OpensIn old folders files hart call came new = Comes (IsOver (machine_of old.har
 -- where the library tells its files and no read failed, an opening that finds all that it needs opens
 abbrev pub OpensUnlessReadsFail : LinkTable → List (List ℕ) → Option (List File) → ℕ → ℕ → ℕ → OpenAsk → Served → Type 0
 OpensUnlessReadsFail old folders files failures failures' hart ask came =
-    (told : List File) → files ≡ Some told → ¬ (Rises failures failures') → OpensWhole (machine_of old.harts) folders told old.events hart ask came
+    (told : List File) → files ≡ Some told → ¬ (Rises failures failures') → OpensWhereItCan (machine_of old.harts) folders told old.events hart ask came
 
 -- in some run on this machine the opening comes to this plan
 pub record MayPlan (harts : ℕ) (s : State) (hart : ℕ) (ask : OpenAsk) (id : ℕ) (planned : Planned) : Type 0 where

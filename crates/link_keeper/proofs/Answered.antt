@@ -17,7 +17,7 @@ use Rattle.history_event.specs.declared.event.Event.{Event}
 use Rattle.history_event.specs.declared.state.Module.{Module}
 use Rattle.history_state.specs.Lemmas.Lists.{found_in, none_in}
 use Rattle.history_state.specs.Setting.{Setting}
-use Rattle.tls_blocks.specs.declared.dtv.Entry.{Entry as BlockEntry}
+use Rattle.tls_blocks.specs.declared.entry.Entry.{Entry as BlockEntry}
 use Rattle.tls_blocks.specs.Blocks.{BlockTable, block_at}
 use Rattle.tls_blocks.specs.Numbers.{module_at}
 use Rattle.kept_words.specs.Handed.{IsIssued, is_event_mark}

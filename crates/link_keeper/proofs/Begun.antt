@@ -16,7 +16,7 @@ use Rattle.history_state.specs.Owed.{times_ended}
 use Rattle.history_state.specs.Read.{BeginsUntouched}
 use Rattle.history_state.specs.Setting.{Machine, Setting, are_finals, have_exited}
 use Rattle.tls_blocks.specs.Blocks.{BlockTable, block_at}
-use Rattle.tls_blocks.specs.declared.dtv.Entry.{Entry as BlockEntry}
+use Rattle.tls_blocks.specs.declared.entry.Entry.{Entry as BlockEntry}
 use Rattle.hart_moves.specs.Follows.{AreOthers, BeginsFinals, HasNone}
 use Rattle.history_state.specs.Memory.{image_of}
 use Rattle.history_calls.specs.Functions.{AreAddresses, destructors}

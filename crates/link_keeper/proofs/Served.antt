@@ -36,7 +36,7 @@ use Rattle.hart_trails.specs.Trails.{Leaves, Reads}
 use Rattle.link_state.specs.Table.{LinkTable}
 use Rattle.tls_blocks.specs.Blocks.{BlockTable, block_at}
 use Rattle.tls_blocks.specs.Numbers.{module_at}
-use Rattle.tls_blocks.specs.declared.dtv.Entry.{Entry as BlockEntry}
+use Rattle.tls_blocks.specs.declared.entry.Entry.{Entry as BlockEntry}
 use Rattle.world_memory.specs.declared.turn_answers.answered.MemoryChange.{MemoryChange}
 use Rattle.kept_words.specs.Handed.{is_event_mark}
 use Rattle.link_keeper.specs.Acting.{Acts, MayAct}

@@ -23,7 +23,7 @@ ghost use Rattle.world_memory.specs.declared.turn_answers.answered.MemoryChange.
 ghost use Rattle.world_turns.specs.Counts.{ShowInCounts};
 
 use hart_fits::harts_fit;
-use hart_linker::{HartBlocks, Opening};
+use hart_linker::{HartBlocks, RunNaming};
 use hart_seat::{Call, Due, LinkedHart, Offered};
 use history_event::HartEnd;
 use ld_base::{HartId, Names, Shown};
@@ -71,7 +71,7 @@ pub(crate) enum Storage {
 
 /// Takes a hart's turn that asks: the turn in which the functions of an object have run, a call, or one that
 /// waits still. Where memory is wanted the hart ends.
-pub(crate) fn act<J: Opening, L: Library>(
+pub(crate) fn act<J: RunNaming, L: Library>(
     alloc: Global,
     state: &mut LinkState,
     id: HartId,
@@ -122,7 +122,7 @@ fn wait(hart: &mut LinkedHart, shown: &Shown) -> Acted
 }
 
 /// The turn of a call. Where its hart may get a block of thread-local storage, room is made to keep it first.
-fn call<J: Opening, L: Library>(
+fn call<J: RunNaming, L: Library>(
     alloc: Global,
     state: &mut LinkState,
     id: HartId,
@@ -216,7 +216,7 @@ fn stop(hart: &mut LinkedHart, reason: &HartEnd)
 }
 
 /// The turn of a request of thread-local storage (`__tls_get_addr`).
-fn locate<J: Opening>(
+fn locate<J: RunNaming>(
     state: &mut LinkState,
     id: HartId,
     hart: &mut LinkedHart,
@@ -281,7 +281,7 @@ fn tls_end(fault: TlsFault) -> HartEnd
 }
 
 /// The turn of a call that is no request of thread-local storage.
-fn ask<J: Opening, L: Library>(
+fn ask<J: RunNaming, L: Library>(
     alloc: Global,
     state: &mut LinkState,
     id: HartId,

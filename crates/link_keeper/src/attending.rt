@@ -8,7 +8,7 @@ ghost use Rattle.link_keeper.specs.Settling.{SettlesAll};
 
 use crate::rows::begin;
 use crate::settling::settle_all;
-use hart_linker::Opening;
+use hart_linker::RunNaming;
 use history_journal::accepted_object;
 use history_memory::slots_stand;
 use kept_words::{entries_are_events, records_stay};
@@ -18,7 +18,7 @@ use std::sync::Wait;
 use word_memory::{HartSeat, KeeperSeat, Memory, tell};
 
 /// A hart is told of all events and begins a call, and each grant is settled whose hart is done with it.
-pub(crate) fn attend<R: Wait, J: Opening>(
+pub(crate) fn attend<R: Wait, J: RunNaming>(
     rt: &R,
     memory: &Memory<J>,
     keeper: &mut KeeperSeat<J>,

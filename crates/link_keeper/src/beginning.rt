@@ -19,7 +19,7 @@ use crate::ends::id_of;
 use crate::hearing::hear;
 use crate::passing::pass_next;
 use hart_fits::{finals_fit, running_is_not_over};
-use hart_linker::{Beginning, HartBlocks, Opening};
+use hart_linker::{Beginning, HartBlocks, RunNaming};
 use hart_seat::LinkedHart;
 use history_event::{Event, HartEnd, HartEntry};
 use history_state::{modules_are_tidy, nothing_comes_before_startup};
@@ -32,7 +32,7 @@ use world_answers::{begin, ends_are_few};
 
 /// The final destructors begin, if every hart has ended by exit and an object is left: the first hart, which
 /// had ended once, by exit with a code, gets its starting registers again. It has heard of all events then.
-pub(crate) fn begin_finals<R: Wait, J: Opening>(
+pub(crate) fn begin_finals<R: Wait, J: RunNaming>(
     rt: &R,
     alloc: Global,
     memory: &Memory<J>,
@@ -108,7 +108,7 @@ fn first_exited(events: &[Event], harts: u32) -> bool
 }
 
 /// The first hart ends once more, since there is no memory to list what is left.
-fn end_again<R: Wait, J: Opening>(
+fn end_again<R: Wait, J: RunNaming>(
     rt: &R,
     memory: &Memory<J>,
     keeper: &mut KeeperSeat<J>,

@@ -11,7 +11,7 @@ ghost use Rattle.hart_linker.specs.Serving.{EndsTurn, WasRunning};
 use crate::attending::attend;
 use crate::passing::pass_next;
 use hart_fits::{harts_fit, running_is_not_over};
-use hart_linker::Opening;
+use hart_linker::RunNaming;
 use hart_seat::LinkedHart;
 use history_event::HartEnd;
 use kept_words::{records_stay, states_stay};
@@ -22,7 +22,7 @@ use word_memory::{HartSeat, KeeperSeat, Memory, Naming};
 use world_answers::ends_are_few;
 
 /// Ends a hart in a turn whose calls of the bus are over: its end is noted, and it takes the entry.
-pub(crate) fn end_hart<R: Wait, J: Opening>(
+pub(crate) fn end_hart<R: Wait, J: RunNaming>(
     rt: &R,
     memory: &Memory<J>,
     keeper: &mut KeeperSeat<J>,

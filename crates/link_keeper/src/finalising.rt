@@ -24,7 +24,7 @@ use crate::ends::id_of;
 use crate::handing::pass;
 use crate::hearing::hear;
 use hart_fits::{harts_fit, own_moves_fit};
-use hart_linker::{HartBlocks, Opening};
+use hart_linker::{HartBlocks, RunNaming};
 use hart_moves::turns_append;
 use hart_seat::LinkedHart;
 use history_event::HartEnd;
@@ -50,7 +50,7 @@ enum LastTurn {
 /// Takes the turn of the first hart in which the final destructors of an object have run. It is planned over
 /// all events; where it has some itself, it is a call as another turn that asks. Where memory is wanted the
 /// hart ends.
-pub(crate) fn finalise_hart<R: Wait, J: Opening>(
+pub(crate) fn finalise_hart<R: Wait, J: RunNaming>(
     rt: &R,
     alloc: Global,
     memory: &Memory<J>,
@@ -126,7 +126,7 @@ fn by_events(plan: FinalTurn) -> LastTurn
 }
 
 /// A turn without an event: the linker isn't called.
-fn go_by<J: Opening>(state: &mut LinkState, id: HartId, hart: &mut LinkedHart, plan: FinalTurn)
+fn go_by<J: RunNaming>(state: &mut LinkState, id: HartId, hart: &mut LinkedHart, plan: FinalTurn)
     requires may { MayFinalise J.setting state.old.harts state.old.events id hart.old.hart }
     requires plan { HasPlan (after state.old.events) hart.old.hart hart.old.spare plan }
     requires quiet { (h : ℕ) → plan_events h plan ≡ [] }
@@ -138,7 +138,7 @@ fn go_by<J: Opening>(state: &mut LinkState, id: HartId, hart: &mut LinkedHart, p
 }
 
 /// A turn with events, which are planned, or where memory is wanted the end of the hart.
-fn act_last<J: Opening>(
+fn act_last<J: RunNaming>(
     state: &mut LinkState,
     id: HartId,
     hart: &mut LinkedHart,

@@ -16,7 +16,7 @@ ghost use Rattle.link_keeper.specs.Settling.{SettlesOne};
 
 use crate::hearing::hear;
 use crate::settling::settle_one;
-use hart_linker::Opening;
+use hart_linker::RunNaming;
 use history_journal::accepted_object;
 use history_memory::slots_stand;
 use kept_words::{records_stay, run_is_over};
@@ -27,7 +27,7 @@ use word_memory::{HartSeat, KeeperSeat, Memory, Naming, join_hart};
 
 /// Ends a run whose harts have all ended, once its keeper is closed: the harts' seats are joined, which are
 /// all harts' in the order of their numbers, and each grant is settled whose fate isn't known yet.
-pub fn finish<J: Opening>(
+pub fn finish<J: RunNaming>(
     memory: &Memory<J>,
     keeper: &mut KeeperSeat<J>,
     state: &mut LinkState,
@@ -58,7 +58,7 @@ pub fn finish<J: Opening>(
 }
 
 /// Joins harts' seats, each of which is told of all events before.
-fn join_all<J: Opening>(memory: &Memory<J>, keeper: &mut KeeperSeat<J>, seats: Vec<HartSeat<J>>)
+fn join_all<J: RunNaming>(memory: &Memory<J>, keeper: &mut KeeperSeat<J>, seats: Vec<HartSeat<J>>)
     requires keeps { KeepsView J.setting J.journal keeper.old }
     requires heard { All (HasHeard J.setting J.journal) seats.items }
     requires calling { All (λ seat. seat.lane.calling ≡ false) seats.items }
@@ -72,7 +72,7 @@ fn join_all<J: Opening>(memory: &Memory<J>, keeper: &mut KeeperSeat<J>, seats: V
 }
 
 /// Joins a hart's seat, which is told of all events before.
-fn join<J: Opening>(memory: &Memory<J>, keeper: &mut KeeperSeat<J>, mut seat: HartSeat<J>)
+fn join<J: RunNaming>(memory: &Memory<J>, keeper: &mut KeeperSeat<J>, mut seat: HartSeat<J>)
     requires keeps { KeepsView J.setting J.journal keeper.old }
     requires heard { HasHeard J.setting J.journal seat }
     requires calling { seat.lane.calling ≡ false }
@@ -84,7 +84,7 @@ fn join<J: Opening>(memory: &Memory<J>, keeper: &mut KeeperSeat<J>, mut seat: Ha
 }
 
 /// Settles each grant whose fate isn't known yet, once its hart has ended.
-fn settle_ended<J: Opening>(memory: &Memory<J>, keeper: &mut KeeperSeat<J>, state: &mut LinkState)
+fn settle_ended<J: RunNaming>(memory: &Memory<J>, keeper: &mut KeeperSeat<J>, state: &mut LinkState)
     requires keeps { KeepsState J.setting J.journal state.old keeper.old }
     requires ended { (m : ℕ) → m < 16 → HasEndedThere keeper.old m }
     ensures keeps { KeepsState J.setting J.journal state.new keeper.new }
@@ -96,7 +96,7 @@ fn settle_ended<J: Opening>(memory: &Memory<J>, keeper: &mut KeeperSeat<J>, stat
 }
 
 /// Settles the last grant of a hart, if its fate isn't known yet. The hart has ended: so it was won or lost.
-fn settle_last<J: Opening>(
+fn settle_last<J: RunNaming>(
     memory: &Memory<J>,
     keeper: &mut KeeperSeat<J>,
     state: &mut LinkState,

@@ -19,7 +19,7 @@ use crate::passing::{entry_at, pass_next, pass_rest};
 use crate::remaking::remake;
 use crate::rows::{pass_answer, pass_grant};
 use hart_fits::running_is_not_over;
-use hart_linker::Opening;
+use hart_linker::RunNaming;
 use hart_moves::turns_append;
 use hart_seat::Offered;
 use history_event::Offer;
@@ -38,7 +38,7 @@ const BLOCK: u8 = 2;
 const AGAIN: u8 = 6;
 
 /// Passes what a turn came to, to its hart, which calls. Answers the first entry that the hart got.
-pub(crate) fn pass<R: Wait, J: Opening>(
+pub(crate) fn pass<R: Wait, J: RunNaming>(
     rt: &R,
     memory: &Memory<J>,
     keeper: &mut KeeperSeat<J>,
@@ -75,7 +75,7 @@ pub(crate) fn pass<R: Wait, J: Opening>(
 }
 
 /// Passes the events of a turn, of which the first isn't a grant. Memory gets first what they come to.
-fn pass_events<R: Wait, J: Opening>(
+fn pass_events<R: Wait, J: RunNaming>(
     rt: &R,
     memory: &Memory<J>,
     keeper: &mut KeeperSeat<J>,
@@ -107,7 +107,7 @@ fn pass_events<R: Wait, J: Opening>(
 }
 
 /// Passes the event of a turn that is a grant: the hart's row is open with it then, and the hart has read it.
-fn pass_offer<R: Wait, J: Opening>(
+fn pass_offer<R: Wait, J: RunNaming>(
     rt: &R,
     memory: &Memory<J>,
     keeper: &mut KeeperSeat<J>,
@@ -141,7 +141,7 @@ fn pass_offer<R: Wait, J: Opening>(
 }
 
 /// Passes an answer that is no event.
-fn pass_no_event<R: Wait, J: Opening>(
+fn pass_no_event<R: Wait, J: RunNaming>(
     rt: &R,
     memory: &Memory<J>,
     keeper: &mut KeeperSeat<J>,

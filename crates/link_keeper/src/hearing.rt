@@ -5,12 +5,12 @@ ghost use Rattle.hart_linker.specs.Between.{HasHeard, Hears};
 ghost use Rattle.word_rule.specs.Views.{IsLane, NoneAbove, known_of, readings_of, row_of};
 ghost use Rattle.link_keeper.specs.Keeping.{KeepsView};
 
-use hart_linker::Opening;
+use hart_linker::RunNaming;
 use kept_words::entries_are_events;
 use word_memory::{HartSeat, KeeperSeat, Memory, tell};
 
 /// Tells a hart of all events, none of which that it hadn't heard of is its own.
-pub(crate) fn hear<J: Opening>(
+pub(crate) fn hear<J: RunNaming>(
     memory: &Memory<J>,
     keeper: &mut KeeperSeat<J>,
     seat: &mut HartSeat<J>,

@@ -22,7 +22,7 @@ use crate::ends::end_hart;
 use crate::finalising::finalise_hart;
 use crate::hearing::hear;
 use crate::serving::serve_hart;
-use hart_linker::{Beginning, HartBlocks, Linker, Opening};
+use hart_linker::{Beginning, HartBlocks, Linker, RunNaming};
 use hart_seat::LinkedHart;
 use history_event::{HartEnd, HartEntry};
 use ld_base::Names;
@@ -36,7 +36,7 @@ use world_turns::counts_show;
 
 /// The linker's state, the keeper's seat, and what openings read. Contracts see it as the keeper's view.
 #[derive(Drop)]
-pub(crate) struct Locked<J: Opening, L: Library + Drop> {
+pub(crate) struct Locked<J: RunNaming, L: Library + Drop> {
     pub(crate) alloc: Global,
     pub(crate) state: LinkState,
     pub(crate) seat: KeeperSeat<J>,
@@ -44,7 +44,7 @@ pub(crate) struct Locked<J: Opening, L: Library + Drop> {
     pub(crate) library: L,
 }
 
-impl<J: Opening, L: Library + Drop> Model for Locked<J, L> {
+impl<J: RunNaming, L: Library + Drop> Model for Locked<J, L> {
     ghost use Rattle.word_rule.specs.declared.view.KeeperView.{KeeperView};
     ghost use Rattle.link_keeper.specs.Keeping.{LockKeeps};
 
@@ -56,7 +56,7 @@ impl<J: Opening, L: Library + Drop> Model for Locked<J, L> {
         (record { faults = L.faults s.library; misses = L.misses s.library }) };
 }
 
-impl<J: Opening, L: Library + Drop> Locked<J, L> {
+impl<J: RunNaming, L: Library + Drop> Locked<J, L> {
     /// Takes a hart's turn that asks.
     fn serve<R: Wait>(
         &mut self,
@@ -204,11 +204,11 @@ impl<J: Opening, L: Library + Drop> Locked<J, L> {
 
 /// The keeper behind its lock.
 #[derive(Drop)]
-pub struct Keeper<J: Opening, L: Library + Drop> {
+pub struct Keeper<J: RunNaming, L: Library + Drop> {
     lock: Mutex<Locked<J, L>>,
 }
 
-impl<J: Opening, L: Library + Drop> Keeper<J, L> {
+impl<J: RunNaming, L: Library + Drop> Keeper<J, L> {
     /// A keeper of a state, whose harts' seats were made.
     pub fn new(
         alloc: Global,
@@ -247,7 +247,7 @@ impl<J: Opening, L: Library + Drop> Keeper<J, L> {
     }
 }
 
-impl<J: Opening, L: Library + Drop> Linker<J> for Keeper<J, L> {
+impl<J: RunNaming, L: Library + Drop> Linker<J> for Keeper<J, L> {
     fn serve<R: Wait>(
         &self,
         rt: &R,

@@ -7,7 +7,7 @@ ghost use Rattle.link_keeper.specs.Passing.{HasPassed, InStep, IsCalling, IsNext
 
 use crate::entries::{answer_of, module_of};
 use crate::rows::{begin, pass_event};
-use hart_linker::Opening;
+use hart_linker::RunNaming;
 use kept_words::{records_stay, states_stay};
 use ld_base::HartId;
 use link_state::LinkState;
@@ -38,7 +38,7 @@ pub(crate) fn entry_at(state: &LinkState, index: usize) -> Entry
 }
 
 /// Passes the events that are left of a hart's turn, one after another: each is a call of its own.
-pub(crate) fn pass_rest<R: Wait, J: Opening>(
+pub(crate) fn pass_rest<R: Wait, J: RunNaming>(
     rt: &R,
     memory: &Memory<J>,
     keeper: &mut KeeperSeat<J>,
@@ -58,7 +58,7 @@ pub(crate) fn pass_rest<R: Wait, J: Opening>(
 }
 
 /// Passes the next event, by a call of its own.
-fn pass_one<R: Wait, J: Opening>(
+fn pass_one<R: Wait, J: RunNaming>(
     rt: &R,
     memory: &Memory<J>,
     keeper: &mut KeeperSeat<J>,

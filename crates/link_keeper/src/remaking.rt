@@ -7,7 +7,7 @@ ghost use Rattle.word_rule.specs.Views.{IsLong};
 ghost use Rattle.link_keeper.specs.Keeping.{KeepsView};
 ghost use Rattle.link_keeper.specs.Remaking.{ComesTo, IsMade, MayMake, Remakes};
 
-use hart_linker::Opening;
+use hart_linker::RunNaming;
 use history_calls::Installs;
 use history_journal::accepted_object;
 use kept_words::records_stay;
@@ -22,7 +22,7 @@ use world_memory::MemoryChange;
 /// has counted yet. The generation is then that of the state.
 ///
 /// It takes no memory. Where pages go it waits for a doubleword that a hart has locked.
-pub(crate) fn remake<R: Wait, J: Opening>(
+pub(crate) fn remake<R: Wait, J: RunNaming>(
     rt: &R,
     memory: &Memory<J>,
     keeper: &mut KeeperSeat<J>,

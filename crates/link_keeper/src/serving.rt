@@ -19,7 +19,7 @@ use crate::blocks::keep_answer;
 use crate::ends::id_of;
 use crate::handing::pass;
 use hart_fits::{harts_fit, own_moves_fit};
-use hart_linker::{HartBlocks, Opening};
+use hart_linker::{HartBlocks, RunNaming};
 use hart_seat::LinkedHart;
 use history_state::{modules_are_tidy, nothing_comes_before_startup};
 use ld_base::Names;
@@ -32,7 +32,7 @@ use world_turns::counts_show;
 
 /// Takes a hart's turn that asks: it hears of all events and calls, grants are settled, the state takes the
 /// turn, and the hart gets what that came to.
-pub(crate) fn serve_hart<R: Wait, J: Opening, L: Library>(
+pub(crate) fn serve_hart<R: Wait, J: RunNaming, L: Library>(
     rt: &R,
     alloc: Global,
     memory: &Memory<J>,

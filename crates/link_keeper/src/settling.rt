@@ -12,7 +12,7 @@ ghost use Rattle.kept_words.specs.Staying.{number_in};
 ghost use Rattle.link_keeper.specs.Keeping.{KeepsState};
 ghost use Rattle.link_keeper.specs.Settling.{HasSettled, SettlesOne};
 
-use hart_linker::Opening;
+use hart_linker::RunNaming;
 use history_journal::accepted_object;
 use history_memory::slots_stand;
 use kept_words::{asks_settle, fates_settle};
@@ -22,7 +22,7 @@ use slot_bind::{Asked, ask};
 use word_memory::{KeeperSeat, Memory, Naming, count_up};
 
 /// Settles each grant whose hart is done with it. The rows of all others are found open.
-pub(crate) fn settle_all<J: Opening>(
+pub(crate) fn settle_all<J: RunNaming>(
     memory: &Memory<J>,
     keeper: &mut KeeperSeat<J>,
     state: &mut LinkState,
@@ -38,7 +38,7 @@ pub(crate) fn settle_all<J: Opening>(
 }
 
 /// Settles the open grant of a hart, if it has one and is done with it.
-fn settle_hart<J: Opening>(
+fn settle_hart<J: RunNaming>(
     memory: &Memory<J>,
     keeper: &mut KeeperSeat<J>,
     state: &mut LinkState,
@@ -61,7 +61,7 @@ fn settle_hart<J: Opening>(
 }
 
 /// Asks for the open grant of a hart, and settles it if its hart is done with it.
-pub(crate) fn settle_one<J: Opening>(
+pub(crate) fn settle_one<J: RunNaming>(
     memory: &Memory<J>,
     keeper: &mut KeeperSeat<J>,
     state: &mut LinkState,

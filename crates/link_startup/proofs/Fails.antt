@@ -27,7 +27,7 @@ use Rattle.link_open_plan.specs.declared.planning.Unopened.TheVariants as unopen
 use Rattle.link_startup.specs.StartParts.Harts.{IsLacking}
 use Rattle.link_startup.specs.declared.start_parts.harts.Unstarted.{Unstarted}
 use Rattle.link_startup.specs.declared.start_parts.harts.Unstarted.TheVariants as unstarted
-use Rattle.link_startup.specs.Startup.{FailsAs, IsNotStarted, IsOfNoFile, IsUnstarted, PlansStart, StartsWhole, refusal_of_start, refusal_unstarted, startup_refusal}
+use Rattle.link_startup.specs.Startup.{FailsAs, IsNotStarted, IsOfNoFile, IsUnstarted, PlansStart, StartsWhereItCan, refusal_of_start, refusal_unstarted, startup_refusal}
 use Rattle.link_startup.proofs.First.{may_open, may_refuse}
 
 -- ---- a hart lacks a place to start
@@ -84,7 +84,7 @@ same_fault events unstarted.Memory starts.Memory same = refl
 
 -- only a read that failed stops a run that can start
 pub whole_so : {X : Type 0} → StartsUnlessReadsFail → (setup : Setup) (files : Option (List File)) (failures failures' : ℕ) (r : Result X StartFault)
-    → IfErr r (IsNotStarted (run_of setup files) setup) → FaultsShow (startup_refusal r) failures failures' → StartsWhole setup files failures failures' r
+    → IfErr r (IsNotStarted (run_of setup files) setup) → FaultsShow (startup_refusal r) failures failures' → StartsWhereItCan setup files failures failures' r
 whole_so law setup files failures failures' (Ok run) not shows = λ told is none may. tt
 whole_so law setup files failures failures' (Err (starts.Refused fault journal)) not shows = λ told is none may.
     none (law (run_of setup files) setup told may.root may.added may.ranges may.found journal.events may.addresses fault failures failures' is may.opens may.finds not shows)

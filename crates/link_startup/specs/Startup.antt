@@ -51,8 +51,8 @@ pub record CanStart (w : Setting) (setup : Setup) : Type 0 where
   pub finds : FindHarts w (opening setup root added ranges ∷ []) 1 setup.harts found addresses
 
 -- where the library tells its files and no read failed, a run that can start over them starts, or memory is wanted
-abbrev pub StartsWhole : {X : Type 0} → Setup → Option (List File) → ℕ → ℕ → Result X StartFault → Type 0
-StartsWhole setup files failures failures' result =
+abbrev pub StartsWhereItCan : {X : Type 0} → Setup → Option (List File) → ℕ → ℕ → Result X StartFault → Type 0
+StartsWhereItCan setup files failures failures' result =
     (told : List File) → files ≡ Some told → ¬ (Rises failures failures') → CanStart (run_of setup files) setup → StartsOr result
 
 -- ---- for the code of this crate alone

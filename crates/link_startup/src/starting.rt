@@ -10,7 +10,7 @@ ghost use Rattle.history_state.specs.After.{after};
 ghost use Rattle.history_state.specs.Objects.{is_startup};
 ghost use Rattle.history_calls.specs.Served.{InstallsNothing};
 ghost use Rattle.history_calls.specs.Startup.{Starts, harts_of, program_ask};
-ghost use Rattle.link_startup.specs.Startup.{FailsAs, IsNotStarted, IsUnstarted, StartsWhole, start_refusal, startup_refusal};
+ghost use Rattle.link_startup.specs.Startup.{FailsAs, IsNotStarted, IsUnstarted, StartsWhereItCan, start_refusal, startup_refusal};
 ghost use Rattle.link_state.specs.Table.{appended};
 ghost use Rattle.link_open_plan.specs.Planned.{IsUnopened, PlansNew, refusal_in};
 ghost use Rattle.link_open_plan.specs.Startup.{run_of};
@@ -54,7 +54,7 @@ pub fn startup<L: Library>(
     requires few { harts_of setup.now < 2 ^ 32 }
     ensures starts { IfOk result (λ run. Starts (run_of setup.now (L.files library.old)) setup.now run.0.events run.1) }
     ensures refused { IfErr result (IsNotStarted (run_of setup.now (L.files library.old)) setup.now) }
-    ensures whole { StartsWhole setup.now (L.files library.old) (L.faults library.old) (L.faults library.new) result }
+    ensures whole { StartsWhereItCan setup.now (L.files library.old) (L.faults library.old) (L.faults library.new) result }
     ensures counts { ShowsInCounts (ArePathsAtStart setup.now.folders setup.now.program) (startup_refusal result)
         (L.faults library.old) (L.faults library.new) (L.misses library.old) (L.misses library.new) }
     ensures files { L.files library.new ≡ L.files library.old }

@@ -10,7 +10,7 @@ ghost use Rattle.history_state.specs.Objects.{is_startup};
 ghost use Rattle.history_state.specs.Setting.{Setting};
 ghost use Rattle.history_calls.specs.declared.link_served.startup.Setup.{Setup as setup_value};
 ghost use Rattle.history_calls.specs.Startup.{Starts, harts_of};
-ghost use Rattle.link_startup.specs.Startup.{IsNotStarted, StartsWhole, startup_refusal};
+ghost use Rattle.link_startup.specs.Startup.{IsNotStarted, StartsWhereItCan, startup_refusal};
 ghost use Rattle.link_open_plan.specs.Startup.{run_of};
 ghost use Rattle.world_answers.specs.ReturnsPart.Settling.{harts_in};
 ghost use Rattle.world_answers.specs.GuestsPart.Counting.{counts_at};
@@ -52,7 +52,7 @@ impl World {
         ensures folders { IfOk result (λ run. run.folders ≡ setup.now.folders) }
         ensures begun { IfOk result (λ run. run.begun ≡ false) }
         ensures refused { IfErr result (IsNotStarted (run_of setup.now (L.files library.old)) setup.now) }
-        ensures whole { StartsWhole setup.now (L.files library.old) (L.faults library.old) (L.faults library.new) result }
+        ensures whole { StartsWhereItCan setup.now (L.files library.old) (L.faults library.old) (L.faults library.new) result }
         ensures counts { ShowsInCounts (ArePathsAtStart setup.now.folders setup.now.program) (startup_refusal result)
             (L.faults library.old) (L.faults library.new) (L.misses library.old) (L.misses library.new) }
         ensures shows { ShowInCounts setup.now.folders (start_events result)

@@ -10,7 +10,7 @@ use Rattle.history_calls.specs.declared.link_served.startup.StartFault.TheVarian
 use Rattle.history_calls.specs.declared.link_served.startup.Started.{Started}
 use Rattle.history_calls.specs.Startup.{Starts}
 use Rattle.history_state.specs.Setting.{Setting}
-use Rattle.link_startup.specs.Startup.{IsNotStarted, StartsWhole, startup_refusal}
+use Rattle.link_startup.specs.Startup.{IsNotStarted, StartsWhereItCan, startup_refusal}
 use Rattle.world_answers.specs.GuestsPart.Counting.{Rise}
 use Rattle.world_answers.specs.GuestsPart.Lemmas.Counting.{spare_counts}
 use Rattle.world_threads.specs.Running.{ComesOf}
@@ -29,7 +29,7 @@ module _ (w : Setting) (setup : Setup) (begun : List Event) (between last : Coun
   refused (Err (starts.Refused fault journal)) comes = absurd comes
   refused (Err starts.Memory) comes = tt
 
-  pub whole : (r : Result Ran StartFault) → ComesOf w setup begun between r last → (files : Option (List File)) (failures failures' : ℕ) → StartsWhole setup files failures failures' r
+  pub whole : (r : Result Ran StartFault) → ComesOf w setup begun between r last → (files : Option (List File)) (failures failures' : ℕ) → StartsWhereItCan setup files failures failures' r
   whole (Ok x) comes files failures failures' = λ told is still can. tt
   whole (Err (starts.Refused fault journal)) comes files failures failures' = absurd comes
   whole (Err starts.Memory) comes files failures failures' = λ told is still can. tt
@@ -60,7 +60,7 @@ module _ (w : Setting) (setup : Setup) (begun : List Event) (between last : Coun
       spare_counts setup.folders first last [] (subst (Rise first) (sym (let same : last ≡ between = comes in same)) rise) refl
 
 -- a start that is refused is refused whatever it would have come to
-pub unstarted_whole : (X Y : Type 0) (setup : Setup) (files : Option (List File)) (failures failures' : ℕ) (why : StartFault) → StartsWhole {X = X} setup files failures failures' (Err why)
-    → StartsWhole {X = Y} setup files failures failures' (Err why)
+pub unstarted_whole : (X Y : Type 0) (setup : Setup) (files : Option (List File)) (failures failures' : ℕ) (why : StartFault) → StartsWhereItCan {X = X} setup files failures failures' (Err why)
+    → StartsWhereItCan {X = Y} setup files failures failures' (Err why)
 unstarted_whole X Y setup files failures failures' (starts.Refused fault journal) whole = whole
 unstarted_whole X Y setup files failures failures' starts.Memory whole = λ told is still can. tt

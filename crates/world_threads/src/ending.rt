@@ -3,13 +3,13 @@
 ghost use Rattle.std.specs.Prelude.{◌≡◌, ◌<◌, ◌≤◌, [], ◌∷◌, All, IsSome, Some, drop, length, map};
 ghost use Rattle.std.specs.Vec.{vec_capacity};
 
-use hart_linker::Opening;
+use hart_linker::RunNaming;
 use hart_seat::LinkedHart;
 use hart_threads::HartRun;
 use history_event::{Ends, HartEnd};
 
 /// How each hart has ended: the first one so, and each other as it says. There is room for that.
-pub(crate) fn ends_of<J: Opening>(room: Vec<HartEnd>, first: HartEnd, runs: &[HartRun<J>]) -> Ends
+pub(crate) fn ends_of<J: RunNaming>(room: Vec<HartEnd>, first: HartEnd, runs: &[HartRun<J>]) -> Ends
     requires some { 0 < length runs.now }
     requires empty { room.items ≡ [] }
     requires room { length runs.now ≤ vec_capacity room }

@@ -3,19 +3,19 @@
 ghost use Rattle.std.specs.Prelude.{◌≡◌};
 ghost use Rattle.world_answers.specs.GuestsPart.Counting.{Rise, counts_at};
 
-use hart_linker::Opening;
+use hart_linker::RunNaming;
 use library_source::{Library, ReadError};
 use std::marker::{Model, PhantomData};
 
 /// A library whose counts are no lower than when the seats of the run's harts were made. Contracts see it as
 /// the library.
 #[derive(Drop)]
-pub(crate) struct Rising<J: Opening, L: Library + Drop> {
+pub(crate) struct Rising<J: RunNaming, L: Library + Drop> {
     library: L,
     of: PhantomData<J>,
 }
 
-impl<J: Opening, L: Library + Drop> Model for Rising<J, L> {
+impl<J: RunNaming, L: Library + Drop> Model for Rising<J, L> {
     ghost use Rattle.world_answers.specs.GuestsPart.Counting.{Rise, counts_at};
 
     ghost Value = { L };
@@ -27,7 +27,7 @@ impl<J: Opening, L: Library + Drop> Model for Rising<J, L> {
     ghost invariant = { λ s. Rise J.counts (counts_at L.faults L.misses s.library) };
 }
 
-impl<J: Opening, L: Library + Drop> Rising<J, L> {
+impl<J: RunNaming, L: Library + Drop> Rising<J, L> {
     /// A library with such counts.
     pub(crate) fn of(library: L) -> Self
         requires { Rise J.counts (counts_at L.faults L.misses library) }
@@ -49,7 +49,7 @@ impl<J: Opening, L: Library + Drop> Rising<J, L> {
     }
 }
 
-impl<J: Opening, L: Library + Drop> Library for Rising<J, L> {
+impl<J: RunNaming, L: Library + Drop> Library for Rising<J, L> {
     ghost files = { L.files };
 
     ghost faults = { L.faults };

@@ -15,7 +15,7 @@ ghost use Rattle.link_keeper.specs.Attending.{NobodysCame};
 ghost use Rattle.link_keeper.specs.Keeping.{KeepsState};
 ghost use Rattle.link_keeper.specs.Rounds.{AreRounds};
 ghost use Rattle.link_open_plan.specs.Startup.{run_of};
-ghost use Rattle.link_startup.specs.Startup.{IsNotStarted, StartsWhole, startup_refusal};
+ghost use Rattle.link_startup.specs.Startup.{IsNotStarted, StartsWhereItCan, startup_refusal};
 ghost use Rattle.word_rule.specs.Views.{BeginsWith};
 ghost use Rattle.world_answers.specs.GuestsPart.Counting.{Rise, counts_at};
 ghost use Rattle.world_threads.specs.Running.{ComesOf, HaveRun, IsNamed, SetsOff};
@@ -27,7 +27,7 @@ use crate::ending::ends_of;
 use crate::rising::Rising;
 use crate::setting_up::{starting_memory, starting_runs};
 use hart_fits::{events_have_owners, harts_fit, running_is_not_over};
-use hart_linker::{Linker, Opening};
+use hart_linker::{Linker, RunNaming};
 use hart_moves::{turns_append, turns_are_counted};
 use hart_threads::{HartRun, run_harts, start_harts, ways_are_whole};
 use hart_trails::{blocks_are_asked_once, fuel_bounds_turns, trails_end, trails_follow};
@@ -59,7 +59,7 @@ pub struct Ran {
 
 /// A run that is set up, but for the linker's state.
 #[derive(Drop)]
-struct Ready<J: Opening> {
+struct Ready<J: RunNaming> {
     memory: Memory<J>,
     keeper: KeeperSeat<J>,
     /// In order of number.
@@ -93,7 +93,7 @@ pub fn run_program<R: Threads + Wait + Sync, L: Library + Send + Drop>(
     requires fuel { setup.now.fuel ≤ 2 ^ 32 }
     ensures ran { IfOk result.0 (λ ran. IsThreaded (run_of setup.now (L.files library)) setup.now ran.left ran.trails) }
     ensures refused { IfErr result.0 (IsNotStarted (run_of setup.now (L.files library)) setup.now) }
-    ensures whole { StartsWhole setup.now (L.files library) (L.faults library) (L.faults result.1) result.0 }
+    ensures whole { StartsWhereItCan setup.now (L.files library) (L.faults library) (L.faults result.1) result.0 }
     ensures counts { ShowsInCounts (ArePathsAtStart setup.now.folders setup.now.program) (startup_refusal result.0)
         (L.faults library) (L.faults result.1) (L.misses library) (L.misses result.1) }
     ensures shows { ShowInCounts setup.now.folders (left_events result.0) (counts_at L.faults L.misses library) (counts_at L.faults L.misses result.1) }
@@ -142,7 +142,7 @@ fn run_started<R: Threads + Wait + Sync, L: Library + Send + Drop>(
 /// # Errors
 ///
 /// Want of memory. The library is as it was then.
-fn run_named<J: Opening + Send + Sync, R: Threads + Wait + Sync, L: Library + Send + Drop>(
+fn run_named<J: RunNaming + Send + Sync, R: Threads + Wait + Sync, L: Library + Send + Drop>(
     rt: &R,
     alloc: Global,
     fresh: Fresh,
@@ -177,7 +177,7 @@ fn run_named<J: Opening + Send + Sync, R: Threads + Wait + Sync, L: Library + Se
 /// # Errors
 ///
 /// Want of memory.
-fn set_up<J: Opening>(
+fn set_up<J: RunNaming>(
     alloc: Global,
     fresh: Fresh,
     setup: &Setup,
@@ -232,7 +232,7 @@ fn set_up<J: Opening>(
 }
 
 /// Runs the harts of a run that is set up, and gives what is left.
-fn run_ready<J: Opening + Send + Sync, R: Threads + Wait + Sync, L: Library + Send + Drop>(
+fn run_ready<J: RunNaming + Send + Sync, R: Threads + Wait + Sync, L: Library + Send + Drop>(
     rt: &R,
     alloc: Global,
     state: LinkState,
@@ -278,7 +278,7 @@ fn run_ready<J: Opening + Send + Sync, R: Threads + Wait + Sync, L: Library + Se
 }
 
 /// Runs harts on threads to their ends. Answers how each has ended.
-fn run_all<J: Opening + Send + Sync, R: Threads + Wait + Sync, K: Linker<J> + Sync>(
+fn run_all<J: RunNaming + Send + Sync, R: Threads + Wait + Sync, K: Linker<J> + Sync>(
     rt: &R,
     linker: &K,
     memory: &Memory<J>,
@@ -304,7 +304,7 @@ fn run_all<J: Opening + Send + Sync, R: Threads + Wait + Sync, K: Linker<J> + Sy
 }
 
 /// The seats of harts. There is room for them.
-fn seats_of<J: Opening>(room: Vec<HartSeat<J>>, runs: Vec<HartRun<J>>) -> Vec<HartSeat<J>>
+fn seats_of<J: RunNaming>(room: Vec<HartSeat<J>>, runs: Vec<HartRun<J>>) -> Vec<HartSeat<J>>
     requires empty { room.items ≡ [] }
     requires room { length runs.items ≤ vec_capacity room }
     ensures { result.items ≡ map (λ r. r.seat) runs.items }
@@ -317,7 +317,7 @@ fn seats_of<J: Opening>(room: Vec<HartSeat<J>>, runs: Vec<HartRun<J>>) -> Vec<Ha
 }
 
 /// The seat of a hart.
-fn seat_of<J: Opening>(run: HartRun<J>) -> HartSeat<J>
+fn seat_of<J: RunNaming>(run: HartRun<J>) -> HartSeat<J>
     ensures { result ≡ run.seat }
 {
     let HartRun {
@@ -329,7 +329,7 @@ fn seat_of<J: Opening>(run: HartRun<J>) -> HartSeat<J>
 }
 
 /// What is left of a run whose harts have ended, and whose keeper is closed.
-fn left_by<J: Opening>(
+fn left_by<J: RunNaming>(
     memory: &Memory<J>,
     state: LinkState,
     keeper: KeeperSeat<J>,

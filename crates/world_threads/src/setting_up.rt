@@ -12,7 +12,7 @@ ghost use Rattle.word_memory.specs.WordSeats.Making.{new_harts};
 ghost use Rattle.word_rule.specs.Views.{IsLong};
 ghost use Rattle.world_threads.specs.Setting.{AreSetOff, IsSetUp, KeepsNone, hears};
 
-use hart_linker::{HartBlocks, Opening};
+use hart_linker::{HartBlocks, RunNaming};
 use hart_seat::{LinkedHart, Purpose};
 use hart_threads::HartRun;
 use history_calls::Installs;
@@ -31,7 +31,7 @@ use word_rule::{KeeperKind, RowWord};
 /// # Errors
 ///
 /// Want of memory.
-pub(crate) fn starting_memory<J: Opening>(
+pub(crate) fn starting_memory<J: RunNaming>(
     alloc: Global,
     fresh: Fresh,
     state: &LinkState,
@@ -79,7 +79,7 @@ fn knows_all<J: Naming>(memory: &Memory<J>, keeper: &mut KeeperSeat<J>)
 /// # Errors
 ///
 /// Want of memory.
-pub(crate) fn starting_runs<J: Opening>(
+pub(crate) fn starting_runs<J: RunNaming>(
     alloc: Global,
     memory: &Memory<J>,
     keeper: &mut KeeperSeat<J>,
@@ -105,7 +105,7 @@ pub(crate) fn starting_runs<J: Opening>(
 /// # Errors
 ///
 /// Want of memory.
-fn first_before<J: Opening>(
+fn first_before<J: RunNaming>(
     runs: &mut [HartRun<J>],
     entry: HartEntry,
     functions: Functions,
@@ -143,7 +143,7 @@ fn run_before(
 /// # Errors
 ///
 /// Want of memory.
-fn runs_at<J: Opening>(
+fn runs_at<J: RunNaming>(
     alloc: Global,
     memory: &Memory<J>,
     keeper: &mut KeeperSeat<J>,
@@ -167,7 +167,7 @@ fn runs_at<J: Opening>(
 }
 
 /// A hart with this seat, which starts with these registers. It is told of the events so far.
-fn run_at<J: Opening>(
+fn run_at<J: RunNaming>(
     alloc: Global,
     memory: &Memory<J>,
     keeper: &mut KeeperSeat<J>,

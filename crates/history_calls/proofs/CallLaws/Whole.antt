@@ -26,7 +26,7 @@ use Rattle.history_calls.specs.Gives.Gives.{by_event}
 use Rattle.history_calls.specs.Laws.{OneOpening, StartsOrFails, is_chance, is_read_fault}
 use Rattle.history_calls.specs.Served.{IsServed}
 use Rattle.history_calls.specs.Startup.{FailsToStart, FindHarts, opening}
-use Rattle.history_calls.specs.CallLaws.Coming.{IsOver, OpensWhole, refusal_of}
+use Rattle.history_calls.specs.CallLaws.Coming.{IsOver, OpensWhereItCan, refusal_of}
 use Rattle.history_calls.specs.CallLaws.Counts.{FaultsShow}
 use Rattle.history_calls.proofs.OneStartup.{no_chance}
 
@@ -108,6 +108,6 @@ module _ (law : OneOpening) (files : List File) (past given : List Event) (h : �
 pub whole_unless : OneOpening → (m : Machine) (folders : List (List ℕ)) (files : List File) (past given : List Event) (h : ℕ)
     (ask : OpenAsk) (came : Served) (failures failures' : ℕ)
     → ((w : Setting) → IsOver m folders (Some files) w → IsServed w past h (opens ask) came given)
-    → FaultsShow (refusal_of came) failures failures' → (Rises failures failures' → ⊥) → OpensWhole m folders files past h ask came
+    → FaultsShow (refusal_of came) failures failures' → (Rises failures failures' → ⊥) → OpensWhereItCan m folders files past h ask came
 whole_unless law m folders files past given h ask came failures failures' is shows none w id root added ranges over opens_all =
     whole law files past given h ask failures failures' none w over.files_are id root added ranges opens_all came shows (is w over)

@@ -75,6 +75,6 @@ pub data NeedsNoRead (s : State) (ask : OpenAsk) : Type 0 where
 -- ---- success
 
 -- an opening that finds all that it needs answers its root's handle, or memory is wanted
-abbrev pub OpensWhole : Machine → List (List ℕ) → List File → List Event → ℕ → OpenAsk → Served → Type 0
-OpensWhole m folders files past h ask came = (w : Setting) (id root : ℕ) (added : List Loaded) (ranges : List Range) → IsOver m folders (Some files) w
+abbrev pub OpensWhereItCan : Machine → List (List ℕ) → List File → List Event → ℕ → OpenAsk → Served → Type 0
+OpensWhereItCan m folders files past h ask came = (w : Setting) (id root : ℕ) (added : List Loaded) (ranges : List Range) → IsOver m folders (Some files) w
     → Opens w (after past) h ask id root added ranges → OpensOr root came

@@ -37,7 +37,7 @@ use Rattle.history_calls.specs.Call.{opens}
 use Rattle.history_calls.specs.Laws.{RefusesAsk}
 use Rattle.history_calls.specs.Served.{IsServed}
 use Rattle.history_calls.specs.Startup.{FailsToStart, FindHarts, is_executable, opening}
-use Rattle.history_calls.specs.CallLaws.Coming.{IsOver, OpensWhole, refusal_of}
+use Rattle.history_calls.specs.CallLaws.Coming.{IsOver, OpensWhereItCan, refusal_of}
 use Rattle.history_calls.specs.CallLaws.Counts.{FaultsShow}
 
 -- ---- openings
@@ -57,7 +57,7 @@ WholeUnlessReadsFail = (m : Machine) (folders : List (List ℕ)) (files : List F
     (ask : OpenAsk) (came : Served) (failures failures' : ℕ)
     → ((w : Setting) → IsOver m folders (Some files) w → IsServed w past h (opens ask) came given)
     → FaultsShow (refusal_of came) failures failures' → ¬ (Rises failures failures')
-    → OpensWhole m folders files past h ask came
+    → OpensWhereItCan m folders files past h ask came
 
 -- and a run whose program opens and whose harts are all found starts: it fails only where a read failed
 abbrev pub StartsUnlessReadsFail : Type 0

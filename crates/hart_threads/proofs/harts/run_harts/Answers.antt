@@ -15,8 +15,8 @@ use Rattle.hart_threads.proofs.harts.run_harts.Goals as goal
 
 pub finish-requires-clause-between : goal.finish-requires-clause-between
 finish-requires-clause-between g c =
-    let w = g.J.Opening.setting in
-    let begun = g.J.Opening.journal in
+    let w = g.J.RunNaming.setting in
+    let begun = g.J.RunNaming.journal in
     let e = c.index-runs-0.result in
     let x = told_to_end c.trails_grow.ensures.stay w begun (get_or c.tell_all.new.runs 0 e).seat (get_or c.args.runs.now 0 e).seat (get_or c.run_all.new.runs 0 e).seat (get_or c.tell_all.new.runs 0 e).seat
     (get_or c.args.runs.now 0 e).hart.hart (get_or c.run_all.new.runs 0 e).hart.hart (get_or c.run_all.new.runs 0 e).blocks (c.run_all.ensures 0 e c.requires.some) (c.tell_all.ensures.told 0 e (omega arith)) in
@@ -27,26 +27,26 @@ pub finish-requires-clause-first : goal.finish-requires-clause-first
 finish-requires-clause-first g c =
     let e = c.index-runs-0.result in
     let y = c.requires.alone e in
-    (on_whole c.trails_grow.ensures.stay g.J.Opening.setting g.J.Opening.journal y.0 y.1 (get_or c.args.runs.now 0 e).seat (get_or c.run_all.new.runs 0 e).seat (get_or c.tell_all.new.runs 0 e).seat
+    (on_whole c.trails_grow.ensures.stay g.J.RunNaming.setting g.J.RunNaming.journal y.0 y.1 (get_or c.args.runs.now 0 e).seat (get_or c.run_all.new.runs 0 e).seat (get_or c.tell_all.new.runs 0 e).seat
     y.2 (get_or c.args.runs.now 0 e).hart.hart (get_or c.run_all.new.runs 0 e).hart.hart (get_or c.run_all.new.runs 0 e).blocks y.3 (c.run_all.ensures 0 e c.requires.some)
     (c.tell_all.ensures.told 0 e (omega arith)).hears).same ∙ y.3.first
 
 pub finish-requires-clause-once : goal.finish-requires-clause-once
 finish-requires-clause-once g c =
-    let w = g.J.Opening.setting in
+    let w = g.J.RunNaming.setting in
     let e = c.index-runs-0.result in
     let y = c.requires.alone e in
     let now = (get_or c.tell_all.new.runs 0 e).seat in
     let z = (get_or c.run_all.new.runs 0 e).hart.hart in
-    let whole = on_whole c.trails_grow.ensures.stay w g.J.Opening.journal y.0 y.1 (get_or c.args.runs.now 0 e).seat (get_or c.run_all.new.runs 0 e).seat now
+    let whole = on_whole c.trails_grow.ensures.stay w g.J.RunNaming.journal y.0 y.1 (get_or c.args.runs.now 0 e).seat (get_or c.run_all.new.runs 0 e).seat now
     y.2 (get_or c.args.runs.now 0 e).hart.hart z (get_or c.run_all.new.runs 0 e).blocks y.3 (c.run_all.ensures 0 e c.requires.some) (c.tell_all.ensures.told 0 e (omega arith)).hears in
     subst (λ (n : ℕ). times_ended n (after now.heard).endings ≤ 1) (whole.same ∙ y.3.first)
     (ended_once c.turns_append.ensures.events c.turns_append.ensures.no_finals w y.1 now y.2 z y.3.fits y.3.fresh.runs y.3.fresh.no_finals whole)
 
 pub returns-clause-first : goal.returns-clause-first
 returns-clause-first g c = λ d alone before b x.
-    let w = g.J.Opening.setting in
-    let begun = g.J.Opening.journal in
+    let w = g.J.RunNaming.setting in
+    let begun = g.J.RunNaming.journal in
     let registers = starting_registers c.args.entry in
     let told_some : 0 < length c.tell_all.new.runs = omega arith in
     let last = (get_or c.tell_all.new.runs 0 d).seat in
@@ -64,8 +64,8 @@ returns-clause-first g c = λ d alone before b x.
 
 pub returns-clause-others : goal.returns-clause-others
 returns-clause-others g c = λ i d some inside.
-    let w = g.J.Opening.setting in
-    let begun = g.J.Opening.journal in
+    let w = g.J.RunNaming.setting in
+    let begun = g.J.RunNaming.journal in
     let before = get_or c.args.runs.now i d in
     let x = told_to_end c.trails_grow.ensures.stay w begun (get_or c.tell_all.new.runs 0 d).seat before.seat (get_or c.run_all.new.runs i d).seat (get_or c.tell_all.new.runs i d).seat
     before.hart.hart (get_or c.run_all.new.runs i d).hart.hart (get_or c.run_all.new.runs i d).blocks (c.run_all.ensures i d inside) (c.tell_all.ensures.told i d (omega (arith, inside))) in

@@ -6,7 +6,7 @@ use Rattle.hart_threads.proofs.harts.start_first.Goals as goal
 
 pub returns-clause-ready : goal.returns-clause-ready
 returns-clause-ready g c =
-    each_set (λ run. IsReady g.J.Opening.setting g.J.Opening.journal run.seat run.hart.hart run.blocks) c.args.runs.now c.start.new.self
+    each_set (λ run. IsReady g.J.RunNaming.setting g.J.RunNaming.journal run.seat run.hart.hart run.blocks) c.args.runs.now c.start.new.self
     (record { between = c.start.ensures.runs.between; calm = c.start.ensures.runs.calm }) c.requires.ready
 
 pub returns-clause-over : goal.returns-clause-over
@@ -14,4 +14,4 @@ returns-clause-over g c = λ d. subst (λ x. HasStarted x.hart.hart) (sym (first
 
 pub returns-clause-calling : goal.returns-clause-calling
 returns-clause-calling g c = λ d. subst (λ x. x.seat.lane.calling ≡ false) (sym (first_set c.args.runs.now c.start.new.self d c.requires.some))
-    (begun_calm g.J.Opening.setting g.J.Opening.journal _ c.start.new.self.seat _ c.start.new.self.hart.hart c.start.new.self.blocks c.start.ensures.runs c.start.ensures.begun)
+    (begun_calm g.J.RunNaming.setting g.J.RunNaming.journal _ c.start.new.self.seat _ c.start.new.self.hart.hart c.start.new.self.blocks c.start.ensures.runs c.start.ensures.begun)

@@ -8,8 +8,8 @@ use Rattle.hart_threads.proofs.harts.tell_all.Goals as goal
 
 pub returns-clause-told : goal.returns-clause-told
 returns-clause-told g c =
-    let w = g.J.Opening.setting in
-    let begun = g.J.Opening.journal in
+    let w = g.J.RunNaming.setting in
+    let begun = g.J.RunNaming.journal in
     let split = c.split_at_mut-first in
     one_and (λ first before now. HearsUpTo w begun first.seat before.seat now.seat) split.result.0.now split.result.1.now c.args.runs.now c.tell_others.new.others _ split.ensures.front_len split.ensures.value
     (λ d. told_same w begun c.tell_others.new.first (get_or c.args.runs.now 0 d).seat c.tell_others.new.first

@@ -16,15 +16,15 @@ returns-then-is_empty-clause-since g c = λ i d low.
 pub tell_all-requires-clause-heard : goal.tell_all-requires-clause-heard
 tell_all-requires-clause-heard g c =
     let split = c.split_at_mut-first in
-    each_set (λ run. HasHeard g.J.Opening.setting g.J.Opening.journal run.seat) split.result.1.now _ c.tell_both.ensures.other.heard
-    (λ k d low. subst (λ run. HasHeard g.J.Opening.setting g.J.Opening.journal run.seat) (back_is split.result.0.now split.result.1.now c.args.runs.now split.ensures.front_len split.ensures.value k d)
+    each_set (λ run. HasHeard g.J.RunNaming.setting g.J.RunNaming.journal run.seat) split.result.1.now _ c.tell_both.ensures.other.heard
+    (λ k d low. subst (λ run. HasHeard g.J.RunNaming.setting g.J.RunNaming.journal run.seat) (back_is split.result.0.now split.result.1.now c.args.runs.now split.ensures.front_len split.ensures.value k d)
     (c.requires.heard (suc k) d (omega (arith, low, back_count split.result.0.now split.result.1.now c.args.runs.now split.ensures.front_len split.ensures.value))))
 
 pub returns-clause-hears : goal.returns-clause-hears
 returns-clause-hears g c =
     let some = some_at (length c.split_at_mut-first.result.1.now) (sym c.is_empty.ensures ∙ c.if-is_empty.false) in
-    let w = g.J.Opening.setting in
-    let begun = g.J.Opening.journal in
+    let w = g.J.RunNaming.setting in
+    let begun = g.J.RunNaming.journal in
     let split = c.split_at_mut-first in
     one_and (λ first before now. Hears w begun before.seat now.seat) split.result.0.now split.result.1.now c.args.runs.now c.tell_all.new.runs _ split.ensures.front_len split.ensures.value
     (λ d. subst (λ h. Hears w begun h c.tell_both.new.one)

@@ -7,8 +7,8 @@ use Rattle.hart_threads.proofs.harts.tell_others.Goals as goal
 
 pub loop-other-preserved : goal.loop-other-preserved
 loop-other-preserved g c =
-    let w = g.J.Opening.setting in
-    let begun = g.J.Opening.journal in
+    let w = g.J.RunNaming.setting in
+    let begun = g.J.RunNaming.journal in
     let all = c.loop-other.others in
     let n = c.loop-other.other-index in
     let r = c.other-item.result in

@@ -15,29 +15,29 @@ use Rattle.link_keeper.proofs.acting.ask.Given.{Over}
 use Rattle.link_keeper.proofs.acting.ask.Goals as goal
 
 pub answer_with_room-came-requires-clause-may : goal.answer_with_room-came-requires-clause-may
-answer_with_room-came-requires-clause-may g c = makes_call g.J.Opening.setting c.args.state.now c.args.id c.args.hart.now.hart c.requires.may.may c.ends_are_few.ensures c.harts_fit.ensures.may_end
+answer_with_room-came-requires-clause-may g c = makes_call g.J.RunNaming.setting c.args.state.now c.args.id c.args.hart.now.hart c.requires.may.may c.ends_are_few.ensures c.harts_fit.ensures.may_end
     c.functions_may_pass.ensures.finished c.turns_keep_writes.ensures.served c.requires.may.calls
 
 pub offer-requires : goal.offer-requires
-offer-requires g c = subst (λ (b : HartState). b.turns < b.fuel) (sym c.answer_with_room-came.ensures.hart) (free g.J.Opening.setting c.args.state.now c.args.id c.args.hart.now.hart c.requires.may.may).fuel
+offer-requires g c = subst (λ (b : HartState). b.turns < b.fuel) (sym c.answer_with_room-came.ensures.hart) (free g.J.RunNaming.setting c.args.state.now c.args.id c.args.hart.now.hart c.requires.may.may).fuel
 
 pub wait-requires : goal.wait-requires
-wait-requires g c = subst (λ (b : HartState). b.turns < b.fuel) (sym c.answer_with_room-came.ensures.hart) (free g.J.Opening.setting c.args.state.now c.args.id c.args.hart.now.hart c.requires.may.may).fuel
+wait-requires g c = subst (λ (b : HartState). b.turns < b.fuel) (sym c.answer_with_room-came.ensures.hart) (free g.J.RunNaming.setting c.args.state.now c.args.id c.args.hart.now.hart c.requires.may.may).fuel
 
 pub take_answer-requires : goal.take_answer-requires
 take_answer-requires g c = record {
-  fuel = subst (λ (b : HartState). b.turns < b.fuel) (sym c.answer_with_room-came.ensures.hart) (free g.J.Opening.setting c.args.state.now c.args.id c.args.hart.now.hart c.requires.may.may).fuel;
+  fuel = subst (λ (b : HartState). b.turns < b.fuel) (sym c.answer_with_room-came.ensures.hart) (free g.J.RunNaming.setting c.args.state.now c.args.id c.args.hart.now.hart c.requires.may.may).fuel;
   room = c.answer_with_room-came.ensures.room;
-  answered = was_answered g.J.Opening.setting c.args.state.now c.answer_with_room-came.new.state c.args.folders.now (g.L.Library.files c.args.library.now) c.args.id c.args.hart.now.hart
+  answered = was_answered g.J.RunNaming.setting c.args.state.now c.answer_with_room-came.new.state c.args.folders.now (g.L.Library.files c.args.library.now) c.args.id c.args.hart.now.hart
       c.answer_with_room-came.new.hart.hart c.answer_with_room-came.result c.answer_with_room-came.ensures.answered c.requires.over c.answer_with_room-came.ensures.hart c.answer_with_room-came.ensures.harts;
 }
 
-granted_of : (g : Over) (c : goal.After-offer g) (spare : ℕ) → Acts g.J.Opening.setting c.args.state.now.events c.answer_with_room-came.new.state c.args.id c.args.hart.now.hart c.offer.new.hart.hart spare
+granted_of : (g : Over) (c : goal.After-offer g) (spare : ℕ) → Acts g.J.RunNaming.setting c.args.state.now.events c.answer_with_room-came.new.state c.args.id c.args.hart.now.hart c.offer.new.hart.hart spare
     c.offer.result.change c.offer.result.reply
 granted_of g c spare =
-    grant_acts g.J.Opening.setting c.answer_with_room-came.new.state c.args.state.now.events c.args.id c.args.hart.now.hart c.offer.new.hart.hart
-    (free g.J.Opening.setting c.args.state.now c.args.id c.args.hart.now.hart c.requires.may.may) c.answer_with_room-came.new.state.made c.answer_with_room-came.result
-    (c.answer_with_room-came.ensures.answered g.J.Opening.setting c.requires.over) c.in-Granted.offered c.offer.result.change c.offer.result.reply spare c.in-Granted.is
+    grant_acts g.J.RunNaming.setting c.answer_with_room-came.new.state c.args.state.now.events c.args.id c.args.hart.now.hart c.offer.new.hart.hart
+    (free g.J.RunNaming.setting c.args.state.now c.args.id c.args.hart.now.hart c.requires.may.may) c.answer_with_room-came.new.state.made c.answer_with_room-came.result
+    (c.answer_with_room-came.ensures.answered g.J.RunNaming.setting c.requires.over) c.in-Granted.offered c.offer.result.change c.offer.result.reply spare c.in-Granted.is
     (c.offer.ensures.hart ∙ ap (λ (b : HartState). spent (record b { resolving = Resolving.to_exchange (offered_of c.in-Granted.offered) })) c.answer_with_room-came.ensures.hart)
     c.offer.ensures.change c.offer.ensures.reply
 
@@ -45,19 +45,19 @@ pub returns-in-Granted-clause-acts : goal.returns-in-Granted-clause-acts
 returns-in-Granted-clause-acts g c = λ spare room. granted_of g c spare
 
 pub returns-in-Granted-clause-shown : goal.returns-in-Granted-clause-shown
-returns-in-Granted-clause-shown g c = other_shown c.args.folders.now g.J.Opening.setting c.args.state.now.events c.answer_with_room-came.new.state c.args.id c.args.hart.now.hart c.offer.new.hart.hart 0
+returns-in-Granted-clause-shown g c = other_shown c.args.folders.now g.J.RunNaming.setting c.args.state.now.events c.answer_with_room-came.new.state c.args.id c.args.hart.now.hart c.offer.new.hart.hart 0
     c.offer.result.change c.offer.result.reply (record { faults = g.L.Library.faults c.args.library.now; misses = g.L.Library.misses c.args.library.now })
     (record { faults = g.L.Library.faults c.answer_with_room-came.new.library; misses = g.L.Library.misses c.answer_with_room-came.new.library })
     (record { faults = c.answer_with_room-came.ensures.faults; misses = c.answer_with_room-came.ensures.misses })
     (granted_of g c 0)
     (λ is. let bad : reply.Granted c.in-Granted.offered ≡ reply.Events = sym c.offer.ensures.reply ∙ is in cc)
 
-again_of : (g : Over) (c : goal.After-wait g) (spare : ℕ) → Acts g.J.Opening.setting c.args.state.now.events c.answer_with_room-came.new.state c.args.id c.args.hart.now.hart c.wait.new.hart.hart spare
+again_of : (g : Over) (c : goal.After-wait g) (spare : ℕ) → Acts g.J.RunNaming.setting c.args.state.now.events c.answer_with_room-came.new.state c.args.id c.args.hart.now.hart c.wait.new.hart.hart spare
     c.wait.result.change c.wait.result.reply
 again_of g c spare =
-    again_acts g.J.Opening.setting c.answer_with_room-came.new.state c.args.state.now.events c.args.id c.args.hart.now.hart c.wait.new.hart.hart
-    (free g.J.Opening.setting c.args.state.now c.args.id c.args.hart.now.hart c.requires.may.may) c.answer_with_room-came.new.state.made c.answer_with_room-came.result
-    (c.answer_with_room-came.ensures.answered g.J.Opening.setting c.requires.over) c.in-Again.shown c.wait.result.change c.wait.result.reply spare c.in-Again.is
+    again_acts g.J.RunNaming.setting c.answer_with_room-came.new.state c.args.state.now.events c.args.id c.args.hart.now.hart c.wait.new.hart.hart
+    (free g.J.RunNaming.setting c.args.state.now c.args.id c.args.hart.now.hart c.requires.may.may) c.answer_with_room-came.new.state.made c.answer_with_room-came.result
+    (c.answer_with_room-came.ensures.answered g.J.RunNaming.setting c.requires.over) c.in-Again.shown c.wait.result.change c.wait.result.reply spare c.in-Again.is
     (c.wait.ensures.hart ∙ ap (λ (b : HartState). spent (awaiting c.in-Again.shown (freed b))) c.answer_with_room-came.ensures.hart)
     c.wait.ensures.change c.wait.ensures.reply
 
@@ -65,7 +65,7 @@ pub returns-in-Again-clause-acts : goal.returns-in-Again-clause-acts
 returns-in-Again-clause-acts g c = λ spare room. again_of g c spare
 
 pub returns-in-Again-clause-shown : goal.returns-in-Again-clause-shown
-returns-in-Again-clause-shown g c = other_shown c.args.folders.now g.J.Opening.setting c.args.state.now.events c.answer_with_room-came.new.state c.args.id c.args.hart.now.hart c.wait.new.hart.hart 0
+returns-in-Again-clause-shown g c = other_shown c.args.folders.now g.J.RunNaming.setting c.args.state.now.events c.answer_with_room-came.new.state c.args.id c.args.hart.now.hart c.wait.new.hart.hart 0
     c.wait.result.change c.wait.result.reply (record { faults = g.L.Library.faults c.args.library.now; misses = g.L.Library.misses c.args.library.now })
     (record { faults = g.L.Library.faults c.answer_with_room-came.new.library; misses = g.L.Library.misses c.answer_with_room-came.new.library })
     (record { faults = c.answer_with_room-came.ensures.faults; misses = c.answer_with_room-came.ensures.misses })
@@ -74,7 +74,7 @@ returns-in-Again-clause-shown g c = other_shown c.args.folders.now g.J.Opening.s
 
 pub returns-in_default : goal.returns-in_default
 returns-in_default g c =
-    let w = g.J.Opening.setting in
+    let w = g.J.RunNaming.setting in
     let came = c.answer_with_room-came in
     let past = c.args.state.now.events in
     let h = c.args.id in

@@ -10,17 +10,17 @@ use Rattle.link_keeper.proofs.acting.call.Goals as goal
 use Rattle.link_keeper.proofs.acting.call.Goals.{else-asks_storage-via-then-asks_storage+else-is_err, else-asks_storage-via-else-asks_storage}
 
 pub end_call-requires-clause-fuel : goal.end_call-requires-clause-fuel
-end_call-requires-clause-fuel g c = (free g.J.Opening.setting c.args.state.now c.args.id c.args.hart.now.hart c.requires.may.may).fuel
+end_call-requires-clause-fuel g c = (free g.J.RunNaming.setting c.args.state.now c.args.id c.args.hart.now.hart c.requires.may.may).fuel
 
 pub end_call-requires-clause-may : goal.end_call-requires-clause-may
-end_call-requires-clause-may g c = ends_now g.J.Opening.setting c.args.state.now c.args.id c.args.hart.now.hart c.requires.may.may c.ends_are_few.ensures c.harts_fit.ensures.may_end
+end_call-requires-clause-may g c = ends_now g.J.RunNaming.setting c.args.state.now c.args.id c.args.hart.now.hart c.requires.may.may c.ends_are_few.ensures c.harts_fit.ensures.may_end
 
 pub returns-then-is_err-clause-acts : goal.returns-then-is_err-clause-acts
 returns-then-is_err-clause-acts g c =
-    roomless_acts g.J.Opening.setting c.args.state.now.events c.args.state.now c.end_call.new.state c.args.id c.args.hart.now.hart c.end_call.new.hart.hart c.storage_of-asked.result c.end_call.result.change
-    c.end_call.result.reply c.make_room.new.self.spare refl (free g.J.Opening.setting c.args.state.now c.args.id c.args.hart.now.hart c.requires.may.may) c.requires.may.calls
+    roomless_acts g.J.RunNaming.setting c.args.state.now.events c.args.state.now c.end_call.new.state c.args.id c.args.hart.now.hart c.end_call.new.hart.hart c.storage_of-asked.result c.end_call.result.change
+    c.end_call.result.reply c.make_room.new.self.spare refl (free g.J.RunNaming.setting c.args.state.now c.args.id c.args.hart.now.hart c.requires.may.may) c.requires.may.calls
     (c.storage_of-asked.ensures (after c.args.state.now.events) c.requires.may.calls) (sym c.asks_storage.ensures ∙ c.if-asks_storage.true)
-    (end_here g.J.Opening.setting c.args.state.now c.args.id c.args.hart.now.hart c.requires.may.may c.ends_are_few.ensures c.harts_fit.ensures.may_end)
+    (end_here g.J.RunNaming.setting c.args.state.now c.args.id c.args.hart.now.hart c.requires.may.may c.ends_are_few.ensures c.harts_fit.ensures.may_end)
     c.end_call.ensures.noted c.end_call.ensures.hart c.end_call.ensures.change c.end_call.ensures.reply
 
 pub returns-in-Locate-clause-acts : goal.returns-in-Locate-clause-acts

@@ -15,18 +15,18 @@ begin-requires-clause-step g c = ap (λ (h : HartView). known_of h.lane) c.tell.
     ∙ ap (λ (k : KeeperView). (row_of k c.tell.new.seat.number).issued) (sym c.tell.ensures.keeper)
 
 pub settle_all-requires : goal.settle_all-requires
-settle_all-requires g c = awaited_state c.records_stay.ensures.alike c.records_stay.ensures.awaited g.J.Opening.setting g.J.Opening.journal c.args.state.now c.args.keeper.now c.begin.new.keeper c.args.id
+settle_all-requires g c = awaited_state c.records_stay.ensures.alike c.records_stay.ensures.awaited g.J.RunNaming.setting g.J.RunNaming.journal c.args.state.now c.args.keeper.now c.begin.new.keeper c.args.id
     (subst (λ n. n < 16) (c.number.ensures.number ∙ sym c.requires.id) c.number.ensures.low) c.requires.keeps
     (c.begin.ensures.keeper ∙ ap (λ (k : KeeperView). awaited_if c.args.id true k) c.tell.ensures.keeper)
 
 pub returns-clause-attends : goal.returns-clause-attends
-returns-clause-attends g c = attends c.entries_are_events.ensures.tail g.J.Opening.setting g.J.Opening.journal c.args.keeper.now c.begin.new.keeper c.settle_all.new.keeper c.args.seat.now c.tell.new.seat c.begin.new.seat c.args.id
+returns-clause-attends g c = attends c.entries_are_events.ensures.tail g.J.RunNaming.setting g.J.RunNaming.journal c.args.keeper.now c.begin.new.keeper c.settle_all.new.keeper c.args.seat.now c.tell.new.seat c.begin.new.seat c.args.id
     c.requires.keeps.view c.requires.heard (c.number.ensures.lane.idle c.requires.calling) c.requires.id
     (subst (λ n. n < 16) (c.number.ensures.number ∙ sym c.requires.id) c.number.ensures.low)
     (c.begin.ensures.keeper ∙ ap (λ (k : KeeperView). awaited_if c.args.id true k) c.tell.ensures.keeper)
     c.tell.ensures.heard c.tell.ensures.begun c.tell.ensures.issued c.begin.ensures.seat c.begin.ensures.calling c.begin.ensures.step c.settle_all.ensures.settled c.tell.ensures.readings
-    (none_open g.J.Opening.setting g.J.Opening.journal c.settle_all.new.state c.settle_all.new.keeper c.settle_all.ensures.keeps
-    (c.accepted_object.ensures.machine g.J.Opening.setting.machine (ap (λ (m : Machine). m.verdict) c.settle_all.ensures.keeps.machine)) c.slots_stand.ensures.granted c.args.id)
+    (none_open g.J.RunNaming.setting g.J.RunNaming.journal c.settle_all.new.state c.settle_all.new.keeper c.settle_all.ensures.keeps
+    (c.accepted_object.ensures.machine g.J.RunNaming.setting.machine (ap (λ (m : Machine). m.verdict) c.settle_all.ensures.keeps.machine)) c.slots_stand.ensures.granted c.args.id)
 
 pub returns-clause-settled : goal.returns-clause-settled
 returns-clause-settled g c = nobodys_came c.args.keeper.now c.begin.new.keeper c.settle_all.new.keeper c.args.id
@@ -36,5 +36,5 @@ pub returns-clause-first : goal.returns-clause-first
 returns-clause-first g c = settled_first c.args.seat.now.number c.args.keeper.now c.begin.new.keeper c.settle_all.new.keeper
     (subst (λ n. c.begin.new.keeper ≡ awaited_if n true c.args.keeper.now) c.requires.id
     (c.begin.ensures.keeper ∙ ap (λ (k : KeeperView). awaited_if c.args.id true k) c.tell.ensures.keeper)) c.settle_all.ensures.settled
-    (none_open g.J.Opening.setting g.J.Opening.journal c.settle_all.new.state c.settle_all.new.keeper c.settle_all.ensures.keeps
-    (c.accepted_object.ensures.machine g.J.Opening.setting.machine (ap (λ (m : Machine). m.verdict) c.settle_all.ensures.keeps.machine)) c.slots_stand.ensures.granted)
+    (none_open g.J.RunNaming.setting g.J.RunNaming.journal c.settle_all.new.state c.settle_all.new.keeper c.settle_all.ensures.keeps
+    (c.accepted_object.ensures.machine g.J.RunNaming.setting.machine (ap (λ (m : Machine). m.verdict) c.settle_all.ensures.keeps.machine)) c.slots_stand.ensures.granted)

@@ -5,19 +5,19 @@ use Rattle.link_keeper.proofs.Finalised.{carried_rests, quiet_moves}
 use Rattle.link_keeper.proofs.finalising.go_by.Goals as goal
 
 pub carry_out-requires-clause-may : goal.carry_out-requires-clause-may
-carry_out-requires-clause-may g c = record { setting = g.J.Opening.setting; machine = c.requires.may.machine; may = c.requires.may.may c.args.plan.code c.args.plan.object c.requires.plan.is }
+carry_out-requires-clause-may g c = record { setting = g.J.RunNaming.setting; machine = c.requires.may.machine; may = c.requires.may.may c.args.plan.code c.args.plan.object c.requires.plan.is }
 
 pub returns-clause-moves : goal.returns-clause-moves
 returns-clause-moves g c =
-    quiet_moves g.J.Opening.setting c.args.state.now.events c.args.id c.args.hart.now.hart c.carry_out.new.hart.hart c.args.plan c.requires.plan.is
-    (c.carry_out.ensures.turn g.J.Opening.setting c.args.hart.now.hart (c.requires.may.may c.args.plan.code c.args.plan.object c.requires.plan.is)
+    quiet_moves g.J.RunNaming.setting c.args.state.now.events c.args.id c.args.hart.now.hart c.carry_out.new.hart.hart c.args.plan c.requires.plan.is
+    (c.carry_out.ensures.turn g.J.RunNaming.setting c.args.hart.now.hart (c.requires.may.may c.args.plan.code c.args.plan.object c.requires.plan.is)
     (sym (ap (λ (es : List Event). if settles (did_by es) then freed c.args.hart.now.hart else c.args.hart.now.hart) (c.requires.quiet c.args.id))))
     c.requires.may.rests (c.requires.quiet c.args.id)
 
 pub returns-clause-rests : goal.returns-clause-rests
 returns-clause-rests g c =
-    carried_rests g.J.Opening.setting c.args.state.now.events c.args.id c.args.hart.now.hart c.carry_out.new.hart.hart c.args.plan c.requires.plan.is
-    (c.carry_out.ensures.turn g.J.Opening.setting c.args.hart.now.hart (c.requires.may.may c.args.plan.code c.args.plan.object c.requires.plan.is)
+    carried_rests g.J.RunNaming.setting c.args.state.now.events c.args.id c.args.hart.now.hart c.carry_out.new.hart.hart c.args.plan c.requires.plan.is
+    (c.carry_out.ensures.turn g.J.RunNaming.setting c.args.hart.now.hart (c.requires.may.may c.args.plan.code c.args.plan.object c.requires.plan.is)
     (sym (ap (λ (es : List Event). if settles (did_by es) then freed c.args.hart.now.hart else c.args.hart.now.hart) (c.requires.quiet c.args.id))))
     c.requires.may.rests
 

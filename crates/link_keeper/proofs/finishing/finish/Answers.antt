@@ -12,27 +12,27 @@ use Rattle.link_keeper.proofs.Settled.{none_open}
 use Rattle.link_keeper.proofs.finishing.finish.Goals as goal
 
 pub settle_ended-requires-clause-keeps : goal.settle_ended-requires-clause-keeps
-settle_ended-requires-clause-keeps g c = joined_state c.records_stay.ensures.alike g.J.Opening.setting g.J.Opening.journal c.args.state.now c.args.keeper.now c.join_all.new.keeper c.args.seats.items c.requires.keeps c.join_all.ensures.joined
+settle_ended-requires-clause-keeps g c = joined_state c.records_stay.ensures.alike g.J.RunNaming.setting g.J.RunNaming.journal c.args.state.now c.args.keeper.now c.join_all.new.keeper c.args.seats.items c.requires.keeps c.join_all.ensures.joined
 
 pub settle_ended-requires-clause-ended : goal.settle_ended-requires-clause-ended
 settle_ended-requires-clause-ended g c =
-    let keeps = joined_state c.records_stay.ensures.alike g.J.Opening.setting g.J.Opening.journal c.args.state.now c.args.keeper.now c.join_all.new.keeper c.args.seats.items c.requires.keeps c.join_all.ensures.joined in
-    have_ended c.run_is_over.ensures.whole c.run_is_over.ensures.trails c.run_is_over.ensures.fates g.J.Opening.setting g.J.Opening.journal
-    (c.accepted_object.ensures.machine g.J.Opening.setting.machine (ap (λ (m : Machine). m.verdict) c.requires.keeps.machine)) c.args.keeper.now c.join_all.new.keeper c.join_all.new.keeper c.args.seats.items
+    let keeps = joined_state c.records_stay.ensures.alike g.J.RunNaming.setting g.J.RunNaming.journal c.args.state.now c.args.keeper.now c.join_all.new.keeper c.args.seats.items c.requires.keeps c.join_all.ensures.joined in
+    have_ended c.run_is_over.ensures.whole c.run_is_over.ensures.trails c.run_is_over.ensures.fates g.J.RunNaming.setting g.J.RunNaming.journal
+    (c.accepted_object.ensures.machine g.J.RunNaming.setting.machine (ap (λ (m : Machine). m.verdict) c.requires.keeps.machine)) c.args.keeper.now c.join_all.new.keeper c.join_all.new.keeper c.args.seats.items
     c.join_all.ensures.joined c.join_all.ensures.fronts c.requires.numbers c.requires.calling c.requires.all keeps.view keeps.view.kept.own
 
 pub look_over-requires-clause-ended : goal.look_over-requires-clause-ended
 look_over-requires-clause-ended g c = λ m low.
-    are_there c.run_is_over.ensures.whole c.run_is_over.ensures.trails c.run_is_over.ensures.fates g.J.Opening.setting g.J.Opening.journal
-    (c.accepted_object.ensures.machine g.J.Opening.setting.machine (ap (λ (x : Machine). x.verdict) c.requires.keeps.machine)) c.args.keeper.now c.join_all.new.keeper c.join_all.new.keeper c.args.seats.items
+    are_there c.run_is_over.ensures.whole c.run_is_over.ensures.trails c.run_is_over.ensures.fates g.J.RunNaming.setting g.J.RunNaming.journal
+    (c.accepted_object.ensures.machine g.J.RunNaming.setting.machine (ap (λ (x : Machine). x.verdict) c.requires.keeps.machine)) c.args.keeper.now c.join_all.new.keeper c.join_all.new.keeper c.args.seats.items
     c.join_all.ensures.joined c.join_all.ensures.fronts c.requires.numbers c.requires.calling c.requires.all c.settle_ended.new.keeper c.settle_ended.ensures.settled m (omega (arith, low, c.requires.all))
 
 pub returns-clause-over : goal.returns-clause-over
 returns-clause-over g c =
     let view = c.settle_ended.ensures.keeps.view in
-    subst (λ (k : KeeperView). RunIsOver g.J.Opening.setting g.J.Opening.journal c.args.keeper.now.events k.events c.args.seats.items) (sym c.look_over.ensures.same)
-    (over c.run_is_over.ensures.whole c.run_is_over.ensures.trails c.run_is_over.ensures.fates g.J.Opening.setting g.J.Opening.journal
-    (c.accepted_object.ensures.machine g.J.Opening.setting.machine (ap (λ (x : Machine). x.verdict) c.requires.keeps.machine)) c.args.keeper.now c.join_all.new.keeper c.settle_ended.new.keeper c.args.seats.items
+    subst (λ (k : KeeperView). RunIsOver g.J.RunNaming.setting g.J.RunNaming.journal c.args.keeper.now.events k.events c.args.seats.items) (sym c.look_over.ensures.same)
+    (over c.run_is_over.ensures.whole c.run_is_over.ensures.trails c.run_is_over.ensures.fates g.J.RunNaming.setting g.J.RunNaming.journal
+    (c.accepted_object.ensures.machine g.J.RunNaming.setting.machine (ap (λ (x : Machine). x.verdict) c.requires.keeps.machine)) c.args.keeper.now c.join_all.new.keeper c.settle_ended.new.keeper c.args.seats.items
     c.join_all.ensures.joined c.join_all.ensures.fronts c.requires.numbers c.requires.calling c.requires.all c.settle_ended.ensures.settled view view.kept.own
     (λ m j low ended. c.look_over.ensures.taken m j (omega (arith, low, c.requires.all)) ended) c.look_over.ensures.decided)
 
@@ -43,22 +43,22 @@ pub returns-clause-joined : goal.returns-clause-joined
 returns-clause-joined g c =
     ap (λ (k : KeeperView). k.joined) c.look_over.ensures.same ∙ c.settle_ended.ensures.settled.settled.joined ∙ ap (λ (k : KeeperView). k.joined) c.join_all.ensures.joined
     ∙ ap (λ (front : List HartView). front ++ map (knows c.args.keeper.now.events) c.args.seats.items)
-    (alone c.run_is_over.ensures.whole c.run_is_over.ensures.trails c.run_is_over.ensures.fates g.J.Opening.setting g.J.Opening.journal
-    (c.accepted_object.ensures.machine g.J.Opening.setting.machine (ap (λ (x : Machine). x.verdict) c.requires.keeps.machine)) c.args.keeper.now c.join_all.new.keeper c.join_all.new.keeper c.args.seats.items
+    (alone c.run_is_over.ensures.whole c.run_is_over.ensures.trails c.run_is_over.ensures.fates g.J.RunNaming.setting g.J.RunNaming.journal
+    (c.accepted_object.ensures.machine g.J.RunNaming.setting.machine (ap (λ (x : Machine). x.verdict) c.requires.keeps.machine)) c.args.keeper.now c.join_all.new.keeper c.join_all.new.keeper c.args.seats.items
     c.join_all.ensures.joined c.join_all.ensures.fronts c.requires.numbers c.requires.calling c.requires.all c.settle_ended.new.keeper c.settle_ended.ensures.settled.settled.joined c.look_over.ensures.once
     c.settle_ended.ensures.keeps.view.kept.harts)
 
 pub returns-clause-keeps : goal.returns-clause-keeps
-returns-clause-keeps g c = subst (KeepsView g.J.Opening.setting g.J.Opening.journal) (sym c.look_over.ensures.same) c.settle_ended.ensures.keeps.view
+returns-clause-keeps g c = subst (KeepsView g.J.RunNaming.setting g.J.RunNaming.journal) (sym c.look_over.ensures.same) c.settle_ended.ensures.keeps.view
 
 pub returns-clause-known : goal.returns-clause-known
 returns-clause-known g c = subst IsOver (sym c.look_over.ensures.same) (record { settled = c.settle_ended.ensures.settled.none; decided = c.look_over.ensures.decided })
 
 pub returns-clause-rounds : goal.returns-clause-rounds
 returns-clause-rounds g c =
-    let begun = g.J.Opening.journal in
-    let before = subst (λ (k : KeeperView). AreRounds g.J.Opening.setting begun k.events k.opens) (sym c.join_all.ensures.joined) c.requires.rounds in
-    let free = none_open g.J.Opening.setting begun c.settle_ended.new.state c.settle_ended.new.keeper c.settle_ended.ensures.keeps
-    (c.accepted_object.ensures.machine g.J.Opening.setting.machine (ap (λ (m : Machine). m.verdict) c.requires.keeps.machine)) c.slots_stand.ensures.granted in
-    subst (λ (k : KeeperView). AreAllRounds g.J.Opening.setting begun k.events k.opens) (sym c.look_over.ensures.same)
-    (all_rounds g.J.Opening.setting begun c.join_all.new.keeper c.settle_ended.new.keeper before c.settle_ended.ensures.settled free)
+    let begun = g.J.RunNaming.journal in
+    let before = subst (λ (k : KeeperView). AreRounds g.J.RunNaming.setting begun k.events k.opens) (sym c.join_all.ensures.joined) c.requires.rounds in
+    let free = none_open g.J.RunNaming.setting begun c.settle_ended.new.state c.settle_ended.new.keeper c.settle_ended.ensures.keeps
+    (c.accepted_object.ensures.machine g.J.RunNaming.setting.machine (ap (λ (m : Machine). m.verdict) c.requires.keeps.machine)) c.slots_stand.ensures.granted in
+    subst (λ (k : KeeperView). AreAllRounds g.J.RunNaming.setting begun k.events k.opens) (sym c.look_over.ensures.same)
+    (all_rounds g.J.RunNaming.setting begun c.join_all.new.keeper c.settle_ended.new.keeper before c.settle_ended.ensures.settled free)

@@ -3,7 +3,7 @@ use Rattle.link_keeper.proofs.finishing.join.Goals as goal
 
 pub returns-clause-joined : goal.returns-clause-joined
 returns-clause-joined g c = joined_as c.args.keeper.now c.hear.new.keeper c.join_hart.new.keeper c.args.seat c.hear.new.seat
-    (knows_all g.J.Opening.setting g.J.Opening.journal c.args.keeper.now.events c.args.seat c.hear.new.seat c.hear.ensures.hears c.hear.ensures.all) c.hear.ensures.keeper c.join_hart.ensures
+    (knows_all g.J.RunNaming.setting g.J.RunNaming.journal c.args.keeper.now.events c.args.seat c.hear.new.seat c.hear.ensures.hears c.hear.ensures.all) c.hear.ensures.keeper c.join_hart.ensures
 
 pub returns-clause-front : goal.returns-clause-front
-returns-clause-front g c = front_of g.J.Opening.setting g.J.Opening.journal c.args.keeper.now.events c.args.seat c.hear.new.seat c.hear.ensures.hears c.hear.ensures.all
+returns-clause-front g c = front_of g.J.RunNaming.setting g.J.RunNaming.journal c.args.keeper.now.events c.args.seat c.hear.new.seat c.hear.ensures.hears c.hear.ensures.all

@@ -14,8 +14,8 @@ pub loop-seat-init : goal.loop-seat-init
 loop-seat-init g c = record { joined = joins_none c.args.keeper.now; fronts = λ k d low. absurd (omega (arith, low)) }
 
 pub join-requires-clause-keeps : goal.join-requires-clause-keeps
-join-requires-clause-keeps g c = subst (KeepsView g.J.Opening.setting g.J.Opening.journal) (sym c.loop-seat.invariant.joined)
-    (joined_view c.records_stay.ensures.alike g.J.Opening.setting g.J.Opening.journal c.args.keeper.now c.loop-seat.yielded c.requires.keeps)
+join-requires-clause-keeps g c = subst (KeepsView g.J.RunNaming.setting g.J.RunNaming.journal) (sym c.loop-seat.invariant.joined)
+    (joined_view c.records_stay.ensures.alike g.J.RunNaming.setting g.J.RunNaming.journal c.args.keeper.now c.loop-seat.yielded c.requires.keeps)
 
 pub loop-seat-preserved : goal.loop-seat-preserved
 loop-seat-preserved g c = record {

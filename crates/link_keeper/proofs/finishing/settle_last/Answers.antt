@@ -5,25 +5,25 @@ use Rattle.link_keeper.proofs.Settled.{pending_in, settles_none_in, settles_told
 use Rattle.link_keeper.proofs.finishing.settle_last.Goals as goal
 
 pub settle_one-requires-clause-pending : goal.settle_one-requires-clause-pending
-settle_one-requires-clause-pending g c = pending_in g.J.Opening.setting g.J.Opening.journal c.args.state.now c.args.keeper.now c.requires.keeps
-    (c.accepted_object.ensures.machine g.J.Opening.setting.machine (ap (λ (m : Machine). m.verdict) c.requires.keeps.machine)) c.slots_stand.ensures.granted c.args.id c.in-Some.grant c.in-Some.ensures.pending
+settle_one-requires-clause-pending g c = pending_in g.J.RunNaming.setting g.J.RunNaming.journal c.args.state.now c.args.keeper.now c.requires.keeps
+    (c.accepted_object.ensures.machine g.J.RunNaming.setting.machine (ap (λ (m : Machine). m.verdict) c.requires.keeps.machine)) c.slots_stand.ensures.granted c.args.id c.in-Some.grant c.in-Some.ensures.pending
 
 pub returns-in-Some-clause-settled : goal.returns-in-Some-clause-settled
 returns-in-Some-clause-settled g c =
-    let at = pending_in g.J.Opening.setting g.J.Opening.journal c.args.state.now c.args.keeper.now c.requires.keeps
-    (c.accepted_object.ensures.machine g.J.Opening.setting.machine (ap (λ (m : Machine). m.verdict) c.requires.keeps.machine)) c.slots_stand.ensures.granted c.args.id c.in-Some.grant c.in-Some.ensures.pending in
-    settles_told g.J.Opening.setting g.J.Opening.journal c.args.state.now c.args.keeper.now c.requires.keeps c.args.id c.requires.low at.0 at.1 c.in-Some.grant at.2 c.settle_one.new.keeper c.settle_one.result
+    let at = pending_in g.J.RunNaming.setting g.J.RunNaming.journal c.args.state.now c.args.keeper.now c.requires.keeps
+    (c.accepted_object.ensures.machine g.J.RunNaming.setting.machine (ap (λ (m : Machine). m.verdict) c.requires.keeps.machine)) c.slots_stand.ensures.granted c.args.id c.in-Some.grant c.in-Some.ensures.pending in
+    settles_told g.J.RunNaming.setting g.J.RunNaming.journal c.args.state.now c.args.keeper.now c.requires.keeps c.args.id c.requires.low at.0 at.1 c.in-Some.grant at.2 c.settle_one.new.keeper c.settle_one.result
     c.settle_one.ensures.told.0 c.settle_one.ensures.told.1 c.settle_one.ensures.told.2 c.settle_one.ensures.keeper
 
 pub returns-in-Some-clause-none : goal.returns-in-Some-clause-none
 returns-in-Some-clause-none g c =
-    let at = pending_in g.J.Opening.setting g.J.Opening.journal c.args.state.now c.args.keeper.now c.requires.keeps
-    (c.accepted_object.ensures.machine g.J.Opening.setting.machine (ap (λ (m : Machine). m.verdict) c.requires.keeps.machine)) c.slots_stand.ensures.granted c.args.id c.in-Some.grant c.in-Some.ensures.pending in
+    let at = pending_in g.J.RunNaming.setting g.J.RunNaming.journal c.args.state.now c.args.keeper.now c.requires.keeps
+    (c.accepted_object.ensures.machine g.J.RunNaming.setting.machine (ap (λ (m : Machine). m.verdict) c.requires.keeps.machine)) c.slots_stand.ensures.granted c.args.id c.in-Some.grant c.in-Some.ensures.pending in
     none_left c.args.keeper.now c.settle_one.new.keeper c.requires.keeps.view.kept.long c.args.id c.requires.low at.0 at.1 c.in-Some.grant c.settle_one.ensures.told.0 c.settle_one.ensures.told.2 c.requires.ended
     c.settle_one.result c.settle_one.ensures.told.1 c.settle_one.ensures.keeper
 
 pub returns-in_default-clause-settled : goal.returns-in_default-clause-settled
-returns-in_default-clause-settled g c = settles_none_in g.J.Opening.setting g.J.Opening.journal c.args.state.now c.args.keeper.now c.requires.keeps c.args.id c.requires.low c.in_default.ensures.none
+returns-in_default-clause-settled g c = settles_none_in g.J.RunNaming.setting g.J.RunNaming.journal c.args.state.now c.args.keeper.now c.requires.keeps c.args.id c.requires.low c.in_default.ensures.none
 
 pub returns-in_default-clause-none : goal.returns-in_default-clause-none
-returns-in_default-clause-none g c = none_there g.J.Opening.setting g.J.Opening.journal c.args.state.now c.args.keeper.now c.requires.keeps c.args.id c.requires.low c.in_default.ensures.none
+returns-in_default-clause-none g c = none_there g.J.RunNaming.setting g.J.RunNaming.journal c.args.state.now c.args.keeper.now c.requires.keeps c.args.id c.requires.low c.in_default.ensures.none

@@ -18,26 +18,26 @@ pass_next-requires-clause-may g c = subst (λ (k : KeeperView). MayPass k c.args
 
 pub pass_next-requires-clause-next : goal.pass_next-requires-clause-next
 pass_next-requires-clause-next g c =
-    let at = left_some g.J.Opening.setting g.J.Opening.journal c.args.state.now c.args.keeper.now c.args.seat.now c.args.id c.args.index c.requires.passing c.requires.index c.requires.left in (
+    let at = left_some g.J.RunNaming.setting g.J.RunNaming.journal c.args.state.now c.args.keeper.now c.args.seat.now c.args.id c.args.index c.requires.passing c.requires.index c.requires.left in (
       at.0,
       at.1,
-      one_next c.states_stay.ensures.events c.records_stay.ensures.alike c.records_stay.ensures.awaited c.records_stay.ensures.quiet g.J.Opening.setting g.J.Opening.journal c.args.state.now c.args.keeper.now
+      one_next c.states_stay.ensures.events c.records_stay.ensures.alike c.records_stay.ensures.awaited c.records_stay.ensures.quiet g.J.RunNaming.setting g.J.RunNaming.journal c.args.state.now c.args.keeper.now
           c.args.seat.now c.args.id c.requires.passing (c.number.ensures.lane.idle c.requires.passing.idle) c.begin.new.keeper c.begin.new.seat c.begin.ensures.keeper c.begin.ensures.seat at.0 at.1 at.2,
     )
 
 pub returns-clause-passing : goal.returns-clause-passing
 returns-clause-passing g c =
-    let at = left_some g.J.Opening.setting g.J.Opening.journal c.args.state.now c.args.keeper.now c.args.seat.now c.args.id c.args.index c.requires.passing c.requires.index c.requires.left in
-    let next = one_next c.states_stay.ensures.events c.records_stay.ensures.alike c.records_stay.ensures.awaited c.records_stay.ensures.quiet g.J.Opening.setting g.J.Opening.journal c.args.state.now c.args.keeper.now
+    let at = left_some g.J.RunNaming.setting g.J.RunNaming.journal c.args.state.now c.args.keeper.now c.args.seat.now c.args.id c.args.index c.requires.passing c.requires.index c.requires.left in
+    let next = one_next c.states_stay.ensures.events c.records_stay.ensures.alike c.records_stay.ensures.awaited c.records_stay.ensures.quiet g.J.RunNaming.setting g.J.RunNaming.journal c.args.state.now c.args.keeper.now
     c.args.seat.now c.args.id c.requires.passing (c.number.ensures.lane.idle c.requires.passing.idle) c.begin.new.keeper c.begin.new.seat c.begin.ensures.keeper c.begin.ensures.seat at.0 at.1 at.2 in
-    one_passes c.states_stay.ensures.events c.records_stay.ensures.alike c.records_stay.ensures.awaited c.records_stay.ensures.quiet g.J.Opening.setting g.J.Opening.journal c.args.state.now c.args.keeper.now
+    one_passes c.states_stay.ensures.events c.records_stay.ensures.alike c.records_stay.ensures.awaited c.records_stay.ensures.quiet g.J.RunNaming.setting g.J.RunNaming.journal c.args.state.now c.args.keeper.now
     c.args.seat.now c.args.id c.requires.passing (c.number.ensures.lane.idle c.requires.passing.idle) c.begin.new.keeper c.begin.new.seat c.begin.ensures.keeper c.begin.ensures.seat
     c.pass_next.new.keeper c.pass_next.new.seat at.0 at.1 at.2 (c.pass_next.ensures.passed at.0 at.1 next)
 
 pub returns-clause-passed : goal.returns-clause-passed
 returns-clause-passed g c e rest are =
-    let next = one_next c.states_stay.ensures.events c.records_stay.ensures.alike c.records_stay.ensures.awaited c.records_stay.ensures.quiet g.J.Opening.setting g.J.Opening.journal c.args.state.now c.args.keeper.now
+    let next = one_next c.states_stay.ensures.events c.records_stay.ensures.alike c.records_stay.ensures.awaited c.records_stay.ensures.quiet g.J.RunNaming.setting g.J.RunNaming.journal c.args.state.now c.args.keeper.now
     c.args.seat.now c.args.id c.requires.passing (c.number.ensures.lane.idle c.requires.passing.idle) c.begin.new.keeper c.begin.new.seat c.begin.ensures.keeper c.begin.ensures.seat e rest are in
-    one_passed c.states_stay.ensures.events c.records_stay.ensures.alike c.records_stay.ensures.awaited c.records_stay.ensures.quiet g.J.Opening.setting g.J.Opening.journal c.args.state.now c.args.keeper.now
+    one_passed c.states_stay.ensures.events c.records_stay.ensures.alike c.records_stay.ensures.awaited c.records_stay.ensures.quiet g.J.RunNaming.setting g.J.RunNaming.journal c.args.state.now c.args.keeper.now
     c.args.seat.now c.args.id c.requires.passing (c.number.ensures.lane.idle c.requires.passing.idle) c.begin.new.keeper c.begin.new.seat c.begin.ensures.keeper c.begin.ensures.seat
     c.pass_next.new.keeper c.pass_next.new.seat e rest are (c.pass_next.ensures.passed e rest next)

@@ -16,13 +16,13 @@ loop-index-preserved g c =
     let below : c.loop-index.index < length c.as_slice-index-end.result.now = c.loop-index-test.true in
     let count = ap length (c.as_slice-index-end.ensures ∙ c.journal.ensures.events) in
     let low : c.loop-index.index < length c.args.state.now.events = omega (arith, below, count) in
-    let at = left_some g.J.Opening.setting g.J.Opening.journal c.args.state.now c.loop-index.keeper c.loop-index.seat c.args.id c.loop-index.index c.loop-index.invariant.passing c.loop-index.invariant.place low in
+    let at = left_some g.J.RunNaming.setting g.J.RunNaming.journal c.args.state.now c.loop-index.keeper c.loop-index.seat c.args.id c.loop-index.index c.loop-index.invariant.passing c.loop-index.invariant.place low in
     let passed = c.pass_one.ensures.passed at.0 at.1 at.2 in
     record {
       place = let grew = ap length passed.events ∙ length-append c.loop-index.keeper.events (at.0 ∷ []) in let place = c.loop-index.invariant.place in omega (arith, grew, place);
       passing = c.pass_one.ensures.passing;
       own = c.loop-index.invariant.own ++ at.0 ∷ [];
-      before = left_more g.J.Opening.setting g.J.Opening.journal c.args.state.now c.args.keeper.now c.loop-index.keeper c.pass_one.new.keeper c.loop-index.seat c.pass_one.new.seat c.args.id
+      before = left_more g.J.RunNaming.setting g.J.RunNaming.journal c.args.state.now c.args.keeper.now c.loop-index.keeper c.pass_one.new.keeper c.loop-index.seat c.pass_one.new.seat c.args.id
           c.loop-index.invariant.own at.0 at.1 c.loop-index.invariant.passing c.loop-index.invariant.before at.2 passed;
       passed = passes_more c.loop-index.invariant.own (at.0 ∷ []) c.args.keeper.now c.loop-index.keeper c.pass_one.new.keeper c.args.seat.now c.loop-index.seat c.pass_one.new.seat c.loop-index.invariant.passed passed;
     }
@@ -32,5 +32,5 @@ returns-clause-passed g c =
     let over : length c.as_slice-index-end.result.now ≤ c.loop-index.index = c.loop-index-test.false in
     let count = ap length (c.as_slice-index-end.ensures ∙ c.journal.ensures.events) in
     let place = c.loop-index.invariant.place in
-    all_passed g.J.Opening.setting g.J.Opening.journal c.args.state.now c.args.keeper.now c.loop-index.keeper c.args.seat.now c.loop-index.seat c.args.id c.loop-index.invariant.own c.loop-index.invariant.passing
+    all_passed g.J.RunNaming.setting g.J.RunNaming.journal c.args.state.now c.args.keeper.now c.loop-index.keeper c.args.seat.now c.loop-index.seat c.args.id c.loop-index.invariant.own c.loop-index.invariant.passing
     c.loop-index.invariant.before (omega (arith, over, count, place)) c.loop-index.invariant.passed

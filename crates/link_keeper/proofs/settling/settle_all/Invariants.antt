@@ -5,7 +5,7 @@ use Rattle.link_keeper.proofs.settling.settle_all.Given as goal
 
 abbrev pub invariant-loop-number : goal.invariant-loop-number
 invariant-loop-number g l = record {
-  keeps : KeepsState g.J.Opening.setting g.J.Opening.journal l.state l.keeper;
+  keeps : KeepsState g.J.RunNaming.setting g.J.RunNaming.journal l.state l.keeper;
   settled : HasSettled l.number l.fn.keeper l.keeper;
   harts : l.state.harts ≡ l.fn.state.harts;
 }

@@ -23,13 +23,13 @@ returns-clause-threaded g c = λ setup started starts have.
       grow = c.run_journals_grow.ensures.grow;
       fuel = c.fuel_bounds_turns.ensures;
     })
-    g.J.Opening.setting setup g.J.Opening.journal started c.args.keeper.events c.finish.new.keeper.events c.args.ends c.args.seats.items
+    g.J.RunNaming.setting setup g.J.RunNaming.journal started c.args.keeper.events c.finish.new.keeper.events c.args.ends c.args.seats.items
     (record { over = c.finish.ensures.over; last = c.requires.keeps.view.last; some = c.requires.some; run = have })
     c.new.result c.into_trails.result
     (ap (λ (j : Journal). j.events) c.new.ensures.journal ∙ c.into_journal.ensures.events ∙ c.finish.ensures.state)
     c.new.ensures.ends
     (ap (λ (k : KeeperView). k.events) c.into_trails.ensures)
     (ap (λ (k : KeeperView). k.joined) c.into_trails.ensures ∙ c.finish.ensures.joined)
-    (subst (AreKept g.J.Opening.setting g.J.Opening.journal) (sym c.into_trails.ensures) c.finish.ensures.keeps.kept)
+    (subst (AreKept g.J.RunNaming.setting g.J.RunNaming.journal) (sym c.into_trails.ensures) c.finish.ensures.keeps.kept)
     (subst IsOver (sym c.into_trails.ensures) c.finish.ensures.known)
-    (subst (λ (k : KeeperView). AreAllRounds g.J.Opening.setting g.J.Opening.journal k.events k.opens) (sym c.into_trails.ensures) c.finish.ensures.rounds) starts
+    (subst (λ (k : KeeperView). AreAllRounds g.J.RunNaming.setting g.J.RunNaming.journal k.events k.opens) (sym c.into_trails.ensures) c.finish.ensures.rounds) starts

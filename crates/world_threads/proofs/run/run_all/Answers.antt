@@ -8,40 +8,40 @@ pub start_harts-requires-clause-ready : goal.start_harts-requires-clause-ready
 start_harts-requires-clause-ready g c =
     let off = c.requires.set_off in
     all_ready (λ r. r.seat) (λ r. r.hart.hart) (λ r. r.blocks) c.served_calls_are_legal.ensures.starts c.events_have_owners.ensures.start c.harts_fit.ensures.start c.served_calls_are_legal.ensures.entries
-    g.J.Opening.setting off.0 g.J.Opening.journal off.1 c.args.entry c.args.runs.now off.2
+    g.J.RunNaming.setting off.0 g.J.RunNaming.journal off.1 c.args.entry c.args.runs.now off.2
 
 pub start_harts-requires-clause-numbers : goal.start_harts-requires-clause-numbers
 start_harts-requires-clause-numbers g c =
     let off = c.requires.set_off in
     numbers_are (λ r. r.seat) (λ r. r.hart.hart) (λ r. r.blocks) c.served_calls_are_legal.ensures.starts c.events_have_owners.ensures.start c.harts_fit.ensures.start c.served_calls_are_legal.ensures.entries
-    g.J.Opening.setting off.0 g.J.Opening.journal off.1 c.args.entry c.args.runs.now off.2
+    g.J.RunNaming.setting off.0 g.J.RunNaming.journal off.1 c.args.entry c.args.runs.now off.2
 
 pub start_harts-requires-clause-heard : goal.start_harts-requires-clause-heard
 start_harts-requires-clause-heard g c =
     let off = c.requires.set_off in
     heard_are (λ r. r.seat) (λ r. r.hart.hart) (λ r. r.blocks) c.served_calls_are_legal.ensures.starts c.events_have_owners.ensures.start c.harts_fit.ensures.start c.served_calls_are_legal.ensures.entries
-    g.J.Opening.setting off.0 g.J.Opening.journal off.1 c.args.entry c.args.runs.now off.2
+    g.J.RunNaming.setting off.0 g.J.RunNaming.journal off.1 c.args.entry c.args.runs.now off.2
 
 pub start_harts-requires-clause-unrun : goal.start_harts-requires-clause-unrun
 start_harts-requires-clause-unrun g c =
     let off = c.requires.set_off in
     unrun_are (λ r. r.seat) (λ r. r.hart.hart) (λ r. r.blocks) c.served_calls_are_legal.ensures.starts c.events_have_owners.ensures.start c.harts_fit.ensures.start c.served_calls_are_legal.ensures.entries
-    g.J.Opening.setting off.0 g.J.Opening.journal off.1 c.args.entry c.args.runs.now off.2
+    g.J.RunNaming.setting off.0 g.J.RunNaming.journal off.1 c.args.entry c.args.runs.now off.2
 
 pub start_harts-requires-clause-harts : goal.start_harts-requires-clause-harts
 start_harts-requires-clause-harts g c =
     let off = c.requires.set_off in
     count (λ r. r.seat) (λ r. r.hart.hart) (λ r. r.blocks) c.served_calls_are_legal.ensures.starts c.events_have_owners.ensures.start c.harts_fit.ensures.start c.served_calls_are_legal.ensures.entries
-    g.J.Opening.setting off.0 g.J.Opening.journal off.1 c.args.entry c.args.runs.now off.2
+    g.J.RunNaming.setting off.0 g.J.RunNaming.journal off.1 c.args.entry c.args.runs.now off.2
 
 pub start_harts-requires-clause-fresh : goal.start_harts-requires-clause-fresh
 start_harts-requires-clause-fresh g c = λ d.
     let off = c.requires.set_off in
     fresh_at (λ r. r.seat) (λ r. r.hart.hart) (λ r. r.blocks) c.served_calls_are_legal.ensures.starts c.events_have_owners.ensures.start c.harts_fit.ensures.start c.served_calls_are_legal.ensures.entries
-    g.J.Opening.setting off.0 g.J.Opening.journal off.1 c.args.entry c.args.runs.now off.2 d
+    g.J.RunNaming.setting off.0 g.J.RunNaming.journal off.1 c.args.entry c.args.runs.now off.2 d
     (let all = count (λ r. r.seat) (λ r. r.hart.hart) (λ r. r.blocks) c.served_calls_are_legal.ensures.starts c.events_have_owners.ensures.start c.harts_fit.ensures.start c.served_calls_are_legal.ensures.entries
-    g.J.Opening.setting off.0 g.J.Opening.journal off.1 c.args.entry c.args.runs.now off.2 in
-    let many = machine_harts g.J.Opening.setting off.0 g.J.Opening.journal off.1 off.2.starts in
+    g.J.RunNaming.setting off.0 g.J.RunNaming.journal off.1 c.args.entry c.args.runs.now off.2 in
+    let many = machine_harts g.J.RunNaming.setting off.0 g.J.RunNaming.journal off.1 off.2.starts in
     omega (arith, all, many))
 
 pub run_harts-first-requires-clause-harts : goal.run_harts-first-requires-clause-harts
@@ -49,7 +49,7 @@ run_harts-first-requires-clause-harts g c κs within =
     let off = c.requires.set_off in
     c.start_harts.auto.runs
     ∙ count (λ r. r.seat) (λ r. r.hart.hart) (λ r. r.blocks) c.served_calls_are_legal.ensures.starts c.events_have_owners.ensures.start c.harts_fit.ensures.start c.served_calls_are_legal.ensures.entries
-    g.J.Opening.setting off.0 g.J.Opening.journal off.1 c.args.entry c.args.runs.now off.2
+    g.J.RunNaming.setting off.0 g.J.RunNaming.journal off.1 c.args.entry c.args.runs.now off.2
 
 pub run_harts-first-requires-clause-alone : goal.run_harts-first-requires-clause-alone
 run_harts-first-requires-clause-alone g c κs within = λ d.
@@ -63,8 +63,8 @@ ends_of-requires-clause-over g c =
 pub returns : goal.returns
 returns g c = λ setup started off.
     let apart = c.start_harts.ensures.apart in
-    let w = g.J.Opening.setting in
-    let begun = g.J.Opening.journal in
+    let w = g.J.RunNaming.setting in
+    let begun = g.J.RunNaming.journal in
     have_run (λ r. r.seat) (λ r. r.hart.hart) (λ r. r.blocks) c.served_calls_are_legal.ensures.starts c.events_have_owners.ensures.start c.harts_fit.ensures.start c.served_calls_are_legal.ensures.entries
     w setup begun started c.args.entry c.args.runs.now off c.ways_are_whole.ensures.others c.run_harts-first.new.runs (c.run_harts-first.auto.runs ∙ c.start_harts.auto.runs)
     c.run_harts-first.result c.ends_of.result apart.0

@@ -3,7 +3,7 @@ use Rattle.history_calls.specs.CallLaws.Counts.{ArePathsAtStart, ShowsInCounts}
 use Rattle.history_calls.specs.Startup.{Starts}
 use Rattle.history_calls.specs.declared.link_served.startup.Started.{Started}
 use Rattle.link_open_plan.specs.Startup.{run_of}
-use Rattle.link_startup.specs.Startup.{StartsWhole, startup_refusal}
+use Rattle.link_startup.specs.Startup.{StartsWhereItCan, startup_refusal}
 use Rattle.link_state.specs.Table.{LinkTable}
 use Rattle.world_answers.specs.GuestsPart.Counting.{counts_at}
 use Rattle.world_threads.specs.Running.{ComesOf}
@@ -73,7 +73,7 @@ returns-in-Ok-clause-misses g c =
 pub returns-in-Err-clause-whole : goal.returns-in-Err-clause-whole
 returns-in-Err-clause-whole g c =
     unstarted_whole (LinkTable × Started) Ran c.args.setup.now (g.L.Library.files c.args.library) (g.L.Library.faults c.args.library) (g.L.Library.faults c.startup.new.library) c.in-Err.why
-    (subst (λ r. StartsWhole c.args.setup.now (g.L.Library.files c.args.library) (g.L.Library.faults c.args.library) (g.L.Library.faults c.startup.new.library) r) c.in-Err.is c.startup.ensures.whole)
+    (subst (λ r. StartsWhereItCan c.args.setup.now (g.L.Library.files c.args.library) (g.L.Library.faults c.args.library) (g.L.Library.faults c.startup.new.library) r) c.in-Err.is c.startup.ensures.whole)
 
 pub returns-in-Err-clause-counts : goal.returns-in-Err-clause-counts
 returns-in-Err-clause-counts g c =

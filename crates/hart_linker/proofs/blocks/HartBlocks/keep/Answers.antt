@@ -2,7 +2,7 @@ use Rattle.std.proofs.Common.{◌≡◌, ◌-◌, ◌<◌, Bool, not, cond, eqb,
 use Rattle.std.specs.List.{filter}
 use Rattle.std.specs.Vec.{vec_capacity, vec_len}
 use Rattle.std.proofs.lemmas.Fn.{filter_same}
-use Rattle.tls_blocks.specs.declared.dtv.Entry.{Entry}
+use Rattle.tls_blocks.specs.declared.entry.Entry.{Entry}
 use Rattle.tls_blocks.specs.Blocks.{block_at}
 use Rattle.hart_linker.proofs.Kept.{block_with}
 use Rattle.hart_linker.proofs.blocks.HartBlocks.keep.Goals as goal

@@ -7,29 +7,29 @@ use Rattle.hart_threads.proofs.run.HartRun.quiet.Goals as goal
 
 pub end-requires-clause-heard : goal.end-requires-clause-heard
 end-requires-clause-heard g c =
-    end_heard g.J.Opening.setting g.J.Opening.journal c.args.self.now.seat c.take_quiet-turned.new.seat c.args.self.now.hart.hart c.take_quiet-turned.new.hart.hart c.args.self.now.blocks c.take_quiet-turned.result c.in-Some.reason
+    end_heard g.J.RunNaming.setting g.J.RunNaming.journal c.args.self.now.seat c.take_quiet-turned.new.seat c.args.self.now.hart.hart c.take_quiet-turned.new.hart.hart c.args.self.now.blocks c.take_quiet-turned.result c.in-Some.reason
     c.requires.between c.requires.runs c.take_quiet-turned.ensures (sym c.end_of.ensures ∙ c.in-Some.is)
 
 pub end-requires-clause-run : goal.end-requires-clause-run
 end-requires-clause-run g c =
-    end_run g.J.Opening.setting g.J.Opening.journal c.args.self.now.seat c.take_quiet-turned.new.seat c.args.self.now.hart.hart c.take_quiet-turned.new.hart.hart c.args.self.now.blocks c.take_quiet-turned.result c.in-Some.reason
+    end_run g.J.RunNaming.setting g.J.RunNaming.journal c.args.self.now.seat c.take_quiet-turned.new.seat c.args.self.now.hart.hart c.take_quiet-turned.new.hart.hart c.args.self.now.blocks c.take_quiet-turned.result c.in-Some.reason
     c.requires.between c.requires.runs c.take_quiet-turned.ensures (sym c.end_of.ensures ∙ c.in-Some.is)
 
 pub end-requires-clause-calling : goal.end-requires-clause-calling
 end-requires-clause-calling g c =
-    end_calm g.J.Opening.setting g.J.Opening.journal c.args.self.now.seat c.take_quiet-turned.new.seat c.args.self.now.hart.hart c.take_quiet-turned.new.hart.hart c.args.self.now.blocks c.take_quiet-turned.result c.in-Some.reason
+    end_calm g.J.RunNaming.setting g.J.RunNaming.journal c.args.self.now.seat c.take_quiet-turned.new.seat c.args.self.now.hart.hart c.take_quiet-turned.new.hart.hart c.args.self.now.blocks c.take_quiet-turned.result c.in-Some.reason
     c.requires.between c.requires.runs c.take_quiet-turned.ensures (sym c.end_of.ensures ∙ c.in-Some.is) c.requires.own
 
 pub returns-in-Some-clause-runs : goal.returns-in-Some-clause-runs
 returns-in-Some-clause-runs g c =
-    end_on c.trails_grow.ensures.stay c.trails_grow.ensures.behind g.J.Opening.setting g.J.Opening.journal c.args.self.now.seat c.take_quiet-turned.new.seat c.end.new.seat
+    end_on c.trails_grow.ensures.stay c.trails_grow.ensures.behind g.J.RunNaming.setting g.J.RunNaming.journal c.args.self.now.seat c.take_quiet-turned.new.seat c.end.new.seat
     c.args.self.now.hart.hart c.take_quiet-turned.new.hart.hart c.end.new.hart.hart c.args.self.now.blocks c.in-Some.reason c.requires.between c.requires.runs c.requires.own
     c.take_quiet-turned.result c.take_quiet-turned.ensures (sym c.end_of.ensures ∙ c.in-Some.is)
     c.end.ensures.turn c.end.ensures.heard c.end.ensures.calling (c.end.ensures.blocks c.args.self.now.blocks)
 
 pub returns-in_default-clause-runs : goal.returns-in_default-clause-runs
 returns-in_default-clause-runs g c =
-    quiet_on c.own_moves_fit.ensures c.turns_append.ensures.finals c.trails_grow.ensures.stay c.trails_grow.ensures.behind g.J.Opening.setting g.J.Opening.journal c.args.self.now.seat c.take_quiet-turned.new.seat
+    quiet_on c.own_moves_fit.ensures c.turns_append.ensures.finals c.trails_grow.ensures.stay c.trails_grow.ensures.behind g.J.RunNaming.setting g.J.RunNaming.journal c.args.self.now.seat c.take_quiet-turned.new.seat
     c.args.self.now.hart.hart c.take_quiet-turned.new.hart.hart c.args.self.now.blocks c.take_quiet-turned.result c.requires.between c.requires.runs c.requires.own c.take_quiet-turned.ensures
     (sym c.end_of.ensures ∙ none_of c.end_of.result c.in_default.not-Some)
 
@@ -42,5 +42,5 @@ returns-in-Some-clause-spends g c =
 
 pub returns-in_default-clause-spends : goal.returns-in_default-clause-spends
 returns-in_default-clause-spends g c =
-    quiet_spends c.turns_are_counted.ensures.count g.J.Opening.setting c.args.self.now.seat c.take_quiet-turned.new.seat c.args.self.now.hart.hart c.take_quiet-turned.new.hart.hart
+    quiet_spends c.turns_are_counted.ensures.count g.J.RunNaming.setting c.args.self.now.seat c.take_quiet-turned.new.seat c.args.self.now.hart.hart c.take_quiet-turned.new.hart.hart
     c.take_quiet-turned.result (c.requires.own empty_state) c.take_quiet-turned.ensures (sym c.end_of.ensures ∙ none_of c.end_of.result c.in_default.not-Some)

@@ -10,10 +10,10 @@ invariant_of-self g c = record {
   keeps = c.begin_finals.ensures.keeps;
   folders_are = c.self.invariant.folders_are;
   files_are = c.self.invariant.files_are;
-  shown = shown_on c.counts_show.ensures.join g.J.Opening.setting.folders g.J.Opening.journal c.self.inside.seat.events c.begin_finals.new.keeper.events g.J.Opening.counts _
-      (begun_least g.J.Opening.setting g.J.Opening.journal c.self.inside.state c.self.inside.seat c.self.invariant.keeps) c.begin_finals.ensures.opened c.self.invariant.shown;
-  rounds = one_or_none_more g.J.Opening.setting g.J.Opening.journal c.args.seat.now.number c.self.inside.seat c.begin_finals.new.keeper c.self.invariant.rounds c.begin_finals.ensures.settled;
+  shown = shown_on c.counts_show.ensures.join g.J.RunNaming.setting.folders g.J.RunNaming.journal c.self.inside.seat.events c.begin_finals.new.keeper.events g.J.RunNaming.counts _
+      (begun_least g.J.RunNaming.setting g.J.RunNaming.journal c.self.inside.state c.self.inside.seat c.self.invariant.keeps) c.begin_finals.ensures.opened c.self.invariant.shown;
+  rounds = one_or_none_more g.J.RunNaming.setting g.J.RunNaming.journal c.args.seat.now.number c.self.inside.seat c.begin_finals.new.keeper c.self.invariant.rounds c.begin_finals.ensures.settled;
 }
 
 pub returns-clause-settled : goal.returns-clause-settled
-returns-clause-settled g c = subst (λ (k : KeeperView). SettlesOrRests g.J.Opening.setting c.args.seat.now.number k c.begin_finals.new.keeper) c.self.view_is c.begin_finals.ensures.settled
+returns-clause-settled g c = subst (λ (k : KeeperView). SettlesOrRests g.J.RunNaming.setting c.args.seat.now.number k c.begin_finals.new.keeper) c.self.view_is c.begin_finals.ensures.settled
