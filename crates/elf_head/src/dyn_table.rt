@@ -18,7 +18,7 @@ mod tag;
 pub use hash_words::read_hash_words;
 pub use law::one_reading;
 pub use reloc::{R_RISCV_JUMP_SLOT, RELOC_SIZE, read_relocs};
-pub use string::{MOST_NAME_BYTES, STRING_LIMIT, read_string, string_at, with_name};
+pub use string::{STRING_LIMIT, read_string, string_at, with_name};
 pub use symbol::{SYMBOL_SIZE, read_symbols};
 pub use tag::{
     DT_BIND_NOW, DT_FINI, DT_FINI_ARRAY, DT_FINI_ARRAYSZ, DT_FLAGS, DT_FLAGS_1, DT_GNU_HASH,

@@ -40,9 +40,9 @@ pub use dyn_table::{
     DT_PLTREL, DT_PLTRELSZ, DT_PREINIT_ARRAY, DT_PREINIT_ARRAYSZ, DT_REL, DT_RELA, DT_RELAENT,
     DT_RELASZ, DT_RELR, DT_RELRENT, DT_RELRSZ, DT_SONAME, DT_STRSZ, DT_STRTAB, DT_SYMBOLIC,
     DT_SYMENT, DT_SYMTAB, DT_TEXTREL, DT_VERDEF, DT_VERDEFNUM, DT_VERNEED, DT_VERNEEDNUM,
-    DT_VERSYM, MOST_NAME_BYTES, R_RISCV_JUMP_SLOT, RELOC_SIZE, STRING_LIMIT, SYMBOL_SIZE, count_of,
-    has, has_flag, last_of, one_reading, read_hash_words, read_relocs, read_string, read_symbols,
-    read_tags, string_at, value_of, values_of, with_name,
+    DT_VERSYM, R_RISCV_JUMP_SLOT, RELOC_SIZE, STRING_LIMIT, SYMBOL_SIZE, count_of, has, has_flag,
+    last_of, one_reading, read_hash_words, read_relocs, read_string, read_symbols, read_tags,
+    string_at, value_of, values_of, with_name,
 };
 pub use program_headers::{PT_DYNAMIC, PT_GNU_RELRO, PT_LOAD, PT_TLS};
 pub use range::{bytes_from, file_bytes, file_part, is_readable};

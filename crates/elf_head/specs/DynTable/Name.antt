@@ -12,7 +12,7 @@ pub record IsStringAt (strings : List ℕ) (offset : ℕ) (name : List ℕ) : Ty
   pub short : length name < 4096
 
 -- the name is what stands from the offset on
-pub record IsWithin (strings : List ℕ) (offset : ℕ) (name : List ℕ) : Type 0 where
+pub record StandsAt (strings : List ℕ) (offset : ℕ) (name : List ℕ) : Type 0 where
   pub held : offset + length name ≤ length strings
   pub cut : slice_range strings offset (offset + length name) ≡ name
 

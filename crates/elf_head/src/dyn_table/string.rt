@@ -1,8 +1,8 @@
 //! Strings of a string table (gABI, "String Table").
 
-ghost use Rattle.std.specs.Prelude.{◌≡◌, ◌==◌, ◌≤◌, ◌^◌, IfOk, IfSome, position, take, drop};
+ghost use Rattle.std.specs.Prelude.{◌≡◌, ◌==◌, ◌+◌, ◌<◌, ◌≤◌, ◌^◌, IfOk, IfSome, OnErr, length, position, take, drop};
 ghost use Rattle.std.specs.Option.{option_copied};
-ghost use Rattle.elf_head.specs.DynTable.Name.{string_at, string_in, IsWithin};
+ghost use Rattle.elf_head.specs.DynTable.Name.{string_at, string_in, StandsAt};
 
 use ld_base::{Name, SharedBytes};
 use std::alloc::AllocError;
@@ -10,10 +10,10 @@ use std::alloc::AllocError;
 /// The most bytes that a string has, its zero byte counted: what keeps reading many of them cheap.
 pub const STRING_LIMIT: usize = 4096;
 
-/// As many bytes as the names of one list have together: eight times those of the largest file.
-/// Names may share bytes of the file, so that without a bound a file could ask for looks at many
-/// times its own bytes.
-pub const MOST_NAME_BYTES: usize = 1 << 26;
+/// The most bytes that the names of one list have together: eight times those of the largest file. Names
+/// may share bytes of the file, and what links objects copies some of them: without a bound a file could
+/// ask for memory of thousands of times its own bytes.
+const MOST_NAME_BYTES: usize = 1 << 26;
 
 /// The index of the first zero byte.
 fn first_zero(bytes: &[u8]) -> Option<usize>
@@ -38,7 +38,7 @@ fn window(strings: &[u8], offset: u64) -> &[u8]
 #[tactic(auto, unfolding(crate::specs::DynTable::Name::string_at), using(crate::proofs::DynTable::Strings::string_found))]
 pub fn string_at(strings: &[u8], offset: u64) -> Option<&[u8]>
     ensures value { option_copied result ≡ string_at strings.now offset }
-    ensures place { IfSome result (λ name. IsWithin strings.now offset name.now) }
+    ensures place { IfSome result (λ name. StandsAt strings.now offset name.now) }
 {
     let window = window(strings, offset);
     match first_zero(window) {
@@ -65,13 +65,15 @@ pub fn read_string(strings: &SharedBytes, offset: u64) -> Result<Name, AllocErro
     }
 }
 
-/// The bytes of some names and of one more.
+/// How many bytes some names and one more have together.
 ///
 /// # Errors
 ///
-/// Want of memory, which a byte too many counts as.
+/// Want of memory, which more than 64 MiB count as.
 pub fn with_name(so_far: usize, name: &Name) -> Result<usize, AllocError>
-    ensures { IfOk result (λ together. together ≤ 2 ^ 26) }
+    ensures sum { IfOk result (λ together. together ≡ so_far + length name.now) }
+    ensures bound { IfOk result (λ together. together ≤ 2 ^ 26) }
+    ensures refused { OnErr result (2 ^ 26 < so_far + length name.now) }
 {
     let together = so_far.saturating_add(name.as_bytes().len());
     if together > MOST_NAME_BYTES {

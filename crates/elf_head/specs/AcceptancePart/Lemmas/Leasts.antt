@@ -33,11 +33,6 @@ least_none test (suc n) i none within =
     let parts = neither (least_below test n) (test n) n none in
     elim (eq-or-lt_of_le (at_most i n within)) [ inl same ↦ rw same parts.1 | inr below ↦ least_none test n i parts.0 below ]
 
--- where each fails, none is the least
-pub least_all : (test : ℕ → Bool) (n : ℕ) → ((j : ℕ) → j < n → test j ≡ false) → least_below test n ≡ None
-least_all test zero fails = refl
-least_all test (suc n) fails = rw (least_all test n (λ j below. fails j (omega arith)), fails n (omega arith))
-
 -- what the least below a number is
 pub record IsLeast (test : ℕ → Bool) (n k : ℕ) : Type 0 where
   pub within : k < n
