@@ -1,8 +1,10 @@
 //! The dynamic table of an ELF file, and the tables that it names.
 //!
-//! [`judge_dynamic`] reads them from the bytes of a file with an accepted head. It answers what they
+//! [`read_dynamic`] reads them from the bytes of a file with an accepted head. It answers what they
 //! say exactly where they break none of these rules, and else the first that they break, with a
-//! number; [`one_verdict`] says the same by relations, and [`accepted_tables`] what is then kept.
+//! number. [`judge_dynamic`] does the same before it is asked whether the file has too many bytes of names
+//! or places of packed relocations. [`one_verdict`] says by relations what both answer, and
+//! [`accepted_tables`] what is then kept.
 //!
 //! 10. There is a dynamic table with bytes in the file, and a DT_NULL ends it.
 //! 11. The string table, the symbol table and a hash table are there, and whatever table is named has
@@ -22,9 +24,10 @@
 //!     slots belong to the linker. The number is the slot, or how many there are.
 //!
 //! Packed relocations are judged as their words name them, with a bit for each doubleword that is
-//! named; what counts as want of memory, as too many bytes of names or places of packed relocations, comes after all rules. Names
-//! stand in the memory of the file. No reading takes more than n log n steps in the size of the file, but
-//! for names, of which each takes up to 4,096, and for the memory that copies name, 512 bytes of it a step.
+//! named. Too many bytes of names, or places of packed relocations, count as want of memory, which comes
+//! after all rules. Names stand in the memory of the file, but for the object's own name, which has memory
+//! of its own. No reading takes more than n log n steps in the size of the file, but for names, of which
+//! each takes up to 4,096, and for the memory that copies name, 512 bytes of it a step.
 #![tactic(auto)]
 
 mod apart;
@@ -43,4 +46,4 @@ mod table_rules;
 mod tables;
 
 pub use law::{accepted_tables, one_verdict};
-pub use reader::{JudgedParts, judge_dynamic};
+pub use reader::{JudgedParts, judge_dynamic, read_dynamic};

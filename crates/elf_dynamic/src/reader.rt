@@ -2,7 +2,7 @@
 
 ghost use Rattle.std.specs.Prelude.{◌≡◌, ◌*◌, ◌<◌, ◌≤◌, ◌^◌, Ok, Err, IfOk, IsTrue, MatchResult, None, length, map, option_map};
 ghost use Rattle.elf_head.specs.AcceptancePart.Broken.{first_broken};
-ghost use Rattle.elf_head.specs.AcceptancePart.Gives.{Gives};
+ghost use Rattle.elf_head.specs.AcceptancePart.Gives.{Answers, Gives};
 ghost use Rattle.elf_head.specs.Readable.{readable};
 ghost use Rattle.elf_head.specs.Rules.{head_verdict};
 ghost use Rattle.ld_base.specs.declared.fault.ReadFault.TheVariants as faults;
@@ -11,6 +11,7 @@ ghost use Rattle.elf_dynamic.specs.Counted.{counted_in, rules_from_names};
 ghost use Rattle.elf_dynamic.specs.Judged.{broken_at, ArePlaces, FaultIs};
 ghost use Rattle.elf_dynamic.specs.Relr.{relr_places};
 ghost use Rattle.elf_dynamic.specs.Rules.{bad_table, dynamic_verdict, rules_on, tables_verdict};
+ghost use Rattle.elf_dynamic.specs.Verdict.{BreaksFirst, SpellsDynamic};
 ghost use Rattle.elf_head.specs.DynTable.HashWords.{hash_words};
 ghost use Rattle.elf_head.specs.DynTable.Name.{string_in};
 ghost use Rattle.elf_head.specs.DynTable.Tag.{last_of, value_of, values_of};
@@ -18,6 +19,7 @@ ghost use Rattle.elf_head.specs.DynTable.TagNumbers.{dt_needed, dt_soname, dt_sy
 ghost use Rattle.elf_dynamic.specs.Tables.{count_in, relr_bytes, strings_in, symbol_bytes, symbols_of};
 
 use crate::feature::{Both, refused_feature};
+use crate::law::one_verdict;
 use crate::reloc_rules::judge_relocs;
 use crate::relr::{Judged, MOST_PLACES};
 use crate::slot_rules::{Slots, bad_slot};
@@ -405,4 +407,39 @@ pub fn judge_dynamic<'a>(
         Some(tags) => judge_all(alloc, file, head, program, tags),
         None => Err(broken(10, 0)),
     }
+}
+
+/// The parts that the tables say, or the first rule that they break.
+fn read_judged(
+    alloc: Global,
+    file: &SharedBytes,
+    head: &Head,
+    program: bool,
+) -> Result<DynParts, ReadFault>
+    requires { head_verdict file.now ≡ Ok head.now }
+    ensures { Gives result (dynamic_verdict file.now head.now program) }
+{
+    let judged = judge_dynamic(alloc, file, head, program)?;
+    Ok(judged.into_parts(alloc)?)
+}
+
+/// Reads the dynamic table of a file with this head, and the tables that it names, as those of the
+/// program or of another object.
+///
+/// # Errors
+///
+/// The first of the rules 10 to 16 that the tables break, with its number, or want of memory: more than
+/// 64 MiB of names, or more places of packed relocations than are kept, are that, too.
+pub fn read_dynamic(
+    alloc: Global,
+    file: &SharedBytes,
+    head: &Head,
+    program: bool,
+) -> Result<DynParts, ReadFault>
+    requires { head_verdict file.now ≡ Ok head.now }
+    ensures answers { Answers (SpellsDynamic file.now head.now program) (BreaksFirst file.now head.now program) result }
+    ensures verdict { Gives result (dynamic_verdict file.now head.now program) }
+{
+    one_verdict();
+    read_judged(alloc, file, head, program)
 }

@@ -141,8 +141,9 @@ fn read_parts(
     Ok((object, table))
 }
 
-/// Reads the object that a file is, as the program or as another object, and its hash tables. Its names
-/// and the bytes of its segments stand in the file's memory, which stays as long as one of them.
+/// Reads the object that a file is, as the program or as another object, and its hash tables. The names
+/// of its symbols, its versions and what it needs, and the bytes of its segments, stand in the file's memory,
+/// which stays as long as one of them. Its own name has memory of its own.
 ///
 /// # Errors
 ///

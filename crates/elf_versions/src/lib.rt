@@ -1,9 +1,10 @@
 //! The symbol versions of an ELF file: those that it defines, those that it needs, and the version
 //! index of each symbol (Drepper, "ELF Symbol Versioning").
 //!
-//! [`judge_versions`] reads the tables of the tags VERSYM, VERDEF and VERNEED. It answers what they say
-//! exactly where they break neither of these rules, and else the first that they break, with a number;
-//! [`one_verdict`] says the same by relations. Names stand in the memory of the file.
+//! [`read_versions`] reads the tables of the tags VERSYM, VERDEF and VERNEED. It answers what they say
+//! exactly where they break neither of these rules, and else the first that they break, with a number.
+//! [`judge_versions`] does the same before it is asked whether the file has too many bytes of names.
+//! [`one_verdict`] says by relations what both answer. Names stand in the memory of the file.
 //!
 //! 17. Each table is well formed. That of VERSYM has an entry for each symbol. Each Verdef and each
 //!     Verneed has version 1 and counts at least one name; each record but the last of its chain
@@ -25,4 +26,4 @@ mod versym;
 
 pub use judged::JudgedVersions;
 pub use law::one_verdict;
-pub use reader::judge_versions;
+pub use reader::{judge_versions, read_versions};

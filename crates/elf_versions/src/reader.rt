@@ -1,12 +1,14 @@
 //! Reading the versions of an object.
 
 ghost use Rattle.std.specs.Prelude.{◌≡◌, Ok, IfOk};
-ghost use Rattle.elf_head.specs.AcceptancePart.Gives.{Gives};
+ghost use Rattle.elf_head.specs.AcceptancePart.Gives.{Answers, Gives};
 ghost use Rattle.elf_head.specs.Rules.{head_verdict};
-ghost use Rattle.elf_versions.specs.Verdict.{strings_of, tables_of, versions_in};
+ghost use Rattle.elf_versions.specs.Spells.{BreaksFirst, SpellsVersions};
+ghost use Rattle.elf_versions.specs.Verdict.{strings_of, tables_of, versions_in, versions_verdict};
 
 use crate::index::unknown_index;
 use crate::judged::JudgedVersions;
+use crate::law::one_verdict;
 use crate::records::Records;
 use crate::verdef::read_verdefs;
 use crate::verneed::read_verneeds;
@@ -14,7 +16,7 @@ use crate::versym::read_versym;
 use elf_head::{
     DT_STRSZ, DT_STRTAB, DT_VERDEF, DT_VERNEED, DT_VERSYM, file_part, last_of, value_of,
 };
-use ld_base::{Head, NotAccepted, ReadFault, SharedBytes, Tag};
+use ld_base::{DynParts, Head, NotAccepted, ReadFault, SharedBytes, Tag, Versions};
 use std::alloc::{AllocError, Global};
 
 /// The string table, in the memory of the file.
@@ -86,4 +88,40 @@ pub fn judge_versions(
         })),
         None => Ok(versions),
     }
+}
+
+/// Reads the versions that an object defines, those that it needs, and the version index of each of
+/// its symbols. Its parts are those that `read_dynamic` answers for these bytes.
+///
+/// # Errors
+///
+/// The first of the rules 17 and 18 that the tables break, with its number, or want of memory: more than
+/// 64 MiB of names are that, too.
+pub fn read_versions(
+    alloc: Global,
+    file: &SharedBytes,
+    head: &Head,
+    parts: &DynParts,
+) -> Result<Versions, ReadFault>
+    requires { head_verdict file.now ≡ Ok head.now }
+    ensures answers { Answers (SpellsVersions file.now head.now parts.now) (BreaksFirst file.now head.now parts.now) result }
+    ensures verdict { Gives result (versions_verdict file.now head.now parts.now) }
+{
+    one_verdict();
+    read_judged(alloc, file, head, parts)
+}
+
+/// The versions that the tables say, or the first rule that they break.
+fn read_judged(
+    alloc: Global,
+    file: &SharedBytes,
+    head: &Head,
+    parts: &DynParts,
+) -> Result<Versions, ReadFault>
+    requires { head_verdict file.now ≡ Ok head.now }
+    ensures { Gives result (versions_verdict file.now head.now parts.now) }
+{
+    let tags = parts.tags.as_slice();
+    let versions = judge_versions(alloc, file, head, tags, parts.symbols.len())?;
+    Ok(versions.into_versions(alloc)?)
 }

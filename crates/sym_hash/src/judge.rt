@@ -30,7 +30,11 @@ fn hash_of(table: &HashTable, name: &[u8]) -> u32
 }
 
 /// The hashes of the names of symbols.
-fn hashes_of(alloc: Global, table: &HashTable, symbols: &[Symbol]) -> Result<Vec<u32>, AllocError>
+pub(crate) fn hashes_of(
+    alloc: Global,
+    table: &HashTable,
+    symbols: &[Symbol],
+) -> Result<Vec<u32>, AllocError>
     ensures { IfOk result (λ hashes. hashes.items ≡ map (λ s. hash_by table.now s.name) symbols.now) }
 {
     symbols
@@ -81,7 +85,7 @@ fn unmet(
 }
 
 /// The table, unless it breaks rule 19 for symbols whose names have these hashes.
-fn judge(
+pub(crate) fn judge(
     alloc: Global,
     table: HashTable,
     symbols: &[Symbol],
