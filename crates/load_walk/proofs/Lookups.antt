@@ -23,7 +23,7 @@ use Rattle.scope_rule.specs.Needed.{defines}
 use Rattle.load_walk.specs.declared.lookup.Defined.{Defined}
 use Rattle.load_walk.specs.declared.places.ObjectPlaces.{ObjectPlaces}
 use Rattle.load_walk.specs.Lookup.{named, place_of, IsKnown, Knows}
-use Rattle.load_walk.specs.Places.{NotesObject, AreObjectPlaces, HasNoPlaces}
+use Rattle.load_walk.specs.Places.{NotesObject, AreObjectPlaces}
 use Rattle.load_walk.proofs.Missing.{same_path}
 
 -- the element behind the first n
@@ -46,9 +46,6 @@ place_added ((key, place) ∷ places) name other n new =
 -- ---- the places of objects
 
 module _ {X : Type 0} (path : X → List ℕ) (object : X → Object) where
-  pub none_placed : (places : ObjectPlaces) → HasNoPlaces places → AreObjectPlaces path object [] places
-  none_placed places none = record { paths = none.paths; sonames = none.sonames }
-
   -- one object more, at the end, or behind the first n
   pub place_pushed : (xs : List X) (x : X) (old new : ObjectPlaces) → AreObjectPlaces path object xs old → NotesObject old new (path x) (object x) (length xs) → AreObjectPlaces path object (xs ++ x ∷ []) new
   place_pushed xs x old new are adds = record {

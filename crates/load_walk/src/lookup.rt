@@ -93,7 +93,7 @@ impl Defined {
     }
 }
 
-/// NotesObject the version that an entry defines, unless it's that of the base.
+/// Adds the version that an entry defines, unless it's that of the base.
 fn add_version(
     alloc: Global,
     names: &mut IndexSet<Vec<u8>>,

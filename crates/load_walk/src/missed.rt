@@ -39,7 +39,7 @@ impl Missed {
         self.paths.contains(path)
     }
 
-    /// NotesObject a path.
+    /// Adds a path.
     pub fn add(&mut self, alloc: Global, path: &[u8]) -> Result<(), AllocError>
         ensures ok { OnOk result (is_member bytes_eq self.old path.now ≡ false → self.new ≡ self.old ++ path.now ∷ []) }
         ensures err { OnErr result (self.new ≡ self.old) }

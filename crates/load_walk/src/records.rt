@@ -73,7 +73,7 @@ fn record_of(ask: &LoadAsk, serial: Serial, arrival: Arrival, found: Serials) ->
     }
 }
 
-/// NotesObject the record of the next new object. The place of the serials behind its own.
+/// Adds the record of the next new object. The place of the serials behind its own.
 fn add_record(
     alloc: Global,
     ask: &LoadAsk,

@@ -118,7 +118,7 @@ impl Walker {
         }
     }
 
-    /// NotesObject the names that one more new object asks for.
+    /// Adds the names that one more new object asks for.
     fn add_names(
         &mut self,
         alloc: Global,
@@ -133,7 +133,7 @@ impl Walker {
         append_names(alloc, &mut self.names, arrival.object.needed.as_slice())
     }
 
-    /// NotesObject the serial of a new object, which the next name found, and the names that it asks for.
+    /// Adds the serial of a new object, which the next name found, and the names that it asks for.
     fn announce(
         &mut self,
         alloc: Global,
