@@ -142,10 +142,6 @@ module _ (edges : List Edge) (marks : ℕ → Option Mark) (path starts : List �
       let less = left_less edges marks more s.target (length path) adds fresh in
       omega (arith, length-append starts (length path ∷ []), length-append rest (steps_from edges s.target (length path)), length-append rest (s ∷ []))
 
-  pub work_back : (kept gone : List ℕ) → starts ≡ kept ++ gone → work edges marks kept rest < work edges marks starts (rest ++ s ∷ [])
-  work_back kept gone parts =
-      omega (arith, ap length parts, length-append kept gone, length-append rest (s ∷ []))
-
 -- ---- the end of a part
 
 -- no step of a list that rises is from the last part, if the last isn't

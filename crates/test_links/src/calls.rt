@@ -78,10 +78,14 @@ impl Calls for LinkCalls {
         match call {
             "unneeded" => graphs::unneeded_of(alloc, &mut words),
             "init_order" => graphs::initialised(alloc, &mut words),
+            "fini_order" => graphs::finalised(alloc, &mut words),
             "component" => graphs::component(alloc, &mut words),
             "add_module" => self.storage.add(alloc, &mut words),
             "remove_module" => self.storage.remove(alloc, &mut words),
             "static_size" => self.storage.static_size(alloc),
+            "first_address" => self.storage.first_answer(alloc, &mut words),
+            "keep_block" => self.storage.keep(alloc, &mut words),
+            "kept" => self.storage.kept(alloc, &mut words),
             "relocated_word" => images::word(alloc, &mut words),
             _ => self.of_scene(call, rest, &mut words),
         }

@@ -3,10 +3,10 @@
 //! An edge is written as `1>2`. What may fail is made one at a time, and handed on: a list that is
 //! kept over many calls that may fail is dear to prove.
 
-use crate::lists::{push_serials, serial, written};
+use crate::lists::{push_serials, serial, serials, written};
 use close_mark::unneeded;
 use history_graph::{Edge, Edges, Graph};
-use init_order::{components_of, init_order};
+use init_order::{components_of, fini_order, init_order};
 use ld_base::{Serial, Serials};
 use std::alloc::Global;
 use test_file::{Fault, Words, show_some};
@@ -29,6 +29,15 @@ pub fn initialised(alloc: Global, words: &mut Words) -> Result<String, Fault> {
     };
     let graph = graph(alloc, new, edges, "-")?;
     let order = init_order(alloc, &graph, graph.nodes.as_slice(), program)?;
+    written(alloc, order.as_slice())
+}
+
+/// The objects of a set in the order of their destructors: of those that were initialised, and the set.
+pub fn finalised(alloc: Global, words: &mut Words) -> Result<String, Fault> {
+    let (inits, set) = (words.text()?, words.text()?);
+    let inits = serials(alloc, inits)?;
+    let set = serials(alloc, set)?;
+    let order = fini_order(alloc, inits.as_slice(), set.as_slice())?;
     written(alloc, order.as_slice())
 }
 

@@ -8,6 +8,12 @@ pub fn serial(word: &str) -> Result<Serial, Fault> {
     Ok(Serial::new(whole(word).ok_or(Fault::Unclear)?))
 }
 
+pub fn serials(alloc: Global, list: &str) -> Result<Serials, Fault> {
+    let mut serials = Serials::new(alloc);
+    push_serials(&mut serials, list)?;
+    Ok(serials)
+}
+
 pub fn push_serials(serials: &mut Serials, list: &str) -> Result<(), Fault> {
     if list == "-" {
         return Ok(());

@@ -1,23 +1,25 @@
-//! Modules of thread-local storage, which stay from line to line.
+//! Modules of thread-local storage, which stay from line to line, and the blocks of one hart.
 
 use ld_base::{Serial, TlsSeg};
 use std::alloc::Global;
 use test_file::{Fault, Words, show, show_some};
-use tls_blocks::TlsModules;
+use tls_blocks::{Dtv, TlsModules};
 
 /// The greatest alignment and size of a segment.
 const LARGEST: u64 = 0x10_0000;
 
-/// The modules.
+/// Modules, and the blocks that a hart keeps.
 #[derive(Drop)]
 pub struct Storage {
     modules: TlsModules,
+    blocks: Dtv,
 }
 
 impl Storage {
     pub fn new(alloc: Global) -> Self {
         Storage {
             modules: TlsModules::new(alloc),
+            blocks: Dtv::new(alloc),
         }
     }
 
@@ -60,5 +62,28 @@ impl Storage {
 
     pub fn static_size(&self, alloc: Global) -> Result<String, Fault> {
         show(alloc, self.modules.static_size())
+    }
+
+    /// What a hart that knows no block is told of a module.
+    pub fn first_answer(&self, alloc: Global, words: &mut Words) -> Result<String, Fault> {
+        let module = words.number()?;
+        let answer = Dtv::new(alloc).address(&self.modules, module);
+        show(alloc, answer)
+    }
+
+    /// Keeps a block of a module.
+    pub fn keep(&mut self, alloc: Global, words: &mut Words) -> Result<String, Fault> {
+        let (module, block) = (words.number()?, words.number()?);
+        if self.modules.find(module).is_none() {
+            return Err(Fault::Unclear);
+        }
+        self.blocks.keep(&self.modules, module, block)?;
+        show(alloc, block)
+    }
+
+    /// The block that is kept, at a generation, for a module.
+    pub fn kept(&self, alloc: Global, words: &mut Words) -> Result<String, Fault> {
+        let (generation, module) = (words.number()?, words.number()?);
+        show_some(alloc, self.blocks.kept(generation, module))
     }
 }

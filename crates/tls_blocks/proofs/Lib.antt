@@ -1,3 +1,4 @@
+mod Entries
 mod Gaps
 mod Parts
 mod Residues
