@@ -4,6 +4,7 @@ ghost use Rattle.std.specs.Prelude.{◌≡◌, IfErr, IfOk, OnErr, OnOk};
 ghost use Rattle.history_event.specs.declared.event.CloseAnswer.TheVariants.{Done};
 ghost use Rattle.history_event.specs.declared.event.Event.TheVariants.{Close};
 ghost use Rattle.history_state.specs.After.{after};
+ghost use Rattle.history_state.specs.Allowed.{Closes};
 ghost use Rattle.link_state.specs.Closing.{IsNotClosed, IsPlanOf};
 ghost use Rattle.link_state.specs.Table.{appended};
 
@@ -46,6 +47,23 @@ impl LinkState {
         )?;
         let plan = ClosingPlan::new(self.alloc, hart, set, namespaces, &self.reserved)?;
         Ok(plan)
+    }
+
+    /// Plans a closing and makes it: one opening less of a handle counts, and the objects of its namespace that
+    /// nothing needs then die by the hart. They are handed out, in load order.
+    ///
+    /// # Errors
+    ///
+    /// That the handle is of no opening that may be closed, or want of memory. Nothing has changed then.
+    pub fn apply_close(&mut self, hart: HartId, handle: u64) -> Result<Dying, CloseFault>
+        ensures ok { IfOk result (λ dying. self.new ≡ appended self.old (Close hart handle (Done dying.list))) }
+        ensures closes { IfOk result (λ dying. Closes (after self.old.events) handle dying.list) }
+        ensures fault { IfErr result (IsNotClosed (after self.old.events) handle) }
+        ensures err { OnErr result (self.new ≡ self.old) }
+    {
+        let plan = self.plan_close(hart, handle)?;
+        let dying = self.close_planned(hart, handle, plan)?;
+        Ok(dying)
     }
 
     /// One opening less of a handle counts, as planned in this state. The objects of its namespace that nothing
