@@ -13,6 +13,7 @@ mod passed;
 mod queue;
 mod registers;
 mod service;
+mod storage;
 
 pub use due::{Call, Copying, Due, Naming, Offered, first_left};
 pub use number::number_at;
@@ -20,3 +21,4 @@ pub use passed::PassedBytes;
 pub use queue::{FunctionQueue, Purpose, passed_objects};
 pub use registers::{A0, A1, A2, NEXT_FUNCTION, RA, enter_function, return_with, start};
 pub use service::{Service, service_at};
+pub use storage::variable_at;

@@ -2,14 +2,10 @@
 
 ghost use Rattle.std.specs.Prelude.{◌≡◌, ◌<◌};
 ghost use Rattle.hart_threads.specs.Keeping.{ReadsBlock};
-ghost use Rattle.history_calls.specs.Gives.{variable_at};
 
 use hart_linker::HartBlocks;
-use hart_seat::LinkedHart;
+use hart_seat::{LinkedHart, variable_at};
 use word_memory::{HartSeat, Memory, Naming, generation};
-
-/// Offsets count from so many bytes behind a block's start (psABI, "Thread Local Storage").
-const BIAS: u64 = 0x800;
 
 /// Answers a call of `__tls_get_addr` with the block that the hart keeps of the module, and says whether
 /// it keeps one at the generation of now. The trail has what was read.
@@ -32,11 +28,4 @@ pub fn kept_block<J: Naming>(
     hart.return_with(variable_at(block, offset));
     hart.spend();
     true
-}
-
-/// The address of a variable in a block.
-fn variable_at(block: u64, offset: u64) -> u64
-    ensures { result ≡ variable_at block offset }
-{
-    block.wrapping_add(offset).wrapping_add(BIAS)
 }

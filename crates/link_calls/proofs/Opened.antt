@@ -6,7 +6,7 @@ use Rattle.std.proofs.lemmas.List.{append-nil, length-map, length-take}
 use Rattle.std.proofs.lemmas.Option.{slice_get-map}
 use Rattle.history_calls.specs.CallLaws.Coming.{Comes, IsOver, refusal_of}
 use Rattle.history_calls.specs.CallLaws.Counts.{FaultsShow, ShowsInCounts}
-use Rattle.history_calls.specs.CallLaws.Laws.{AreNumberedFrom, NewEdgesSuffice, NumberedByPlace, WholeUnlessReadsFail}
+use Rattle.history_calls.specs.CallLaws.Laws.{AreNumberedFrom, NewEdgesSuffice, NumberedByPlace, OpensUnlessFaultsShow}
 use Rattle.elf_object.specs.Verdict.{object_verdict}
 use Rattle.link_images.specs.ImageReads.Reads.{ArePrepared}
 use Rattle.history_journal.specs.Following.{MayFollow, machine_of}
@@ -287,7 +287,7 @@ pub unopened_none : (old new : LinkTable) (folders : List (List ℕ)) (files : O
 unopened_none old new folders files hart call is =
     subst (λ (t : LinkTable). OpensIn old folders files hart call served.Memory t) (sym is) (nothing_came (IsOver (machine_of old.harts) folders files) old.events hart call)
 
-pub whole_of : WholeUnlessReadsFail → (old new : LinkTable) (folders : List (List ℕ)) (files : Option (List File)) (hart : ℕ) (ask : OpenAsk) (came : Served) (failures failures' : ℕ)
+pub whole_of : OpensUnlessFaultsShow → (old new : LinkTable) (folders : List (List ℕ)) (files : Option (List File)) (hart : ℕ) (ask : OpenAsk) (came : Served) (failures failures' : ℕ)
     → OpensIn old folders files hart (opens ask) came new → FaultsShow (refusal_of came) failures failures' → OpensUnlessReadsFail old folders files failures failures' hart ask came
 whole_of law old new folders files hart ask came failures failures' comes shows = λ told are unrisen.
     law (machine_of old.harts) folders told old.events comes.given hart ask came failures failures'

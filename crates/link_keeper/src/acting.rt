@@ -16,7 +16,6 @@ ghost use Rattle.history_state.specs.State.{State};
 ghost use Rattle.link_keeper.specs.Acting.{Acts, AsksStorage, MayAct, MayCall, NotLocating, OpenNothing, asks, may_give_block, storage_of};
 ghost use Rattle.link_state.specs.Table.{appended};
 ghost use Rattle.world_answers.specs.Answers.{is_service};
-ghost use Rattle.world_answers.specs.Faults.{tls_end};
 ghost use Rattle.world_answers.specs.GuestsPart.GuestWorlds.Worlds.{MayEndNow};
 ghost use Rattle.world_answers.specs.Openings.{TurnReadsNothing};
 ghost use Rattle.world_memory.specs.declared.turn_answers.answered.MemoryChange.TheVariants as change;
@@ -24,18 +23,15 @@ ghost use Rattle.world_turns.specs.Counts.{ShowInCounts};
 
 use hart_fits::harts_fit;
 use hart_linker::{HartBlocks, RunNaming};
-use hart_seat::{Call, Due, LinkedHart, Offered};
+use hart_seat::{Call, Due, LinkedHart, Offered, variable_at};
 use history_event::HartEnd;
 use ld_base::{HartId, Names, Shown};
 use library_source::Library;
-use link_state::{LinkState, TlsFault};
+use link_state::LinkState;
 use std::alloc::Global;
-use world_answers::{answer_with_room, awaited, complete, ends_are_few, take_answer};
+use world_answers::{answer_with_room, awaited, complete, ends_are_few, take_answer, tls_end};
 use world_memory::{Answered, MemoryChange};
 use world_turns::{counts_show, functions_may_pass, turns_keep_writes};
-
-/// Offsets count from so many bytes behind a block's start (psABI, "Thread Local Storage").
-const BIAS: u64 = 0x800;
 
 /// By what a turn is answered.
 #[derive(Clone, Copy)]
@@ -259,24 +255,6 @@ fn give_block(hart: &mut LinkedHart, number: u64, offset: u64, block: u64, is_ne
     Acted {
         reply,
         change: MemoryChange::Made,
-    }
-}
-
-/// The address of a variable in a block.
-fn variable_at(block: u64, offset: u64) -> u64
-    ensures { result ≡ variable_at block offset }
-{
-    block.wrapping_add(offset).wrapping_add(BIAS)
-}
-
-/// As what a hart ends that has no block.
-fn tls_end(fault: TlsFault) -> HartEnd
-    ensures { result ≡ tls_end fault }
-{
-    match fault {
-        TlsFault::BadModule(number) => HartEnd::BadModule(number),
-        TlsFault::NoRoom(pages) => HartEnd::AddressSpaceFull(pages),
-        TlsFault::Memory => HartEnd::Memory,
     }
 }
 

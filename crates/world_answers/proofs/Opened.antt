@@ -28,7 +28,7 @@ use Rattle.world_memory.specs.declared.turn_answers.answered.Answered.{Answered}
 use Rattle.world_memory.specs.declared.turn_answers.answered.MemoryChange.{MemoryChange}
 use Rattle.world_memory.specs.declared.turn_answers.answered.MemoryChange.TheVariants as change
 use Rattle.world_answers.specs.Answers.{AnswersOver, MayEndIn}
-use Rattle.world_answers.specs.Openings.{OpensWholly, Reaches, RefusalIsCounted}
+use Rattle.world_answers.specs.Openings.{AnswersUnlessReadsFail, Reaches, RefusalIsCounted}
 use Rattle.world_answers.specs.Served.{answer_with, noted}
 use Rattle.world_answers.proofs.Came.{given_to, served_in, wanting_may_end}
 use Rattle.world_answers.proofs.Quiet.{leaves_value}
@@ -60,7 +60,7 @@ reaches root does denied (served.Again for) so = so
 reaches root does denied served.Memory so = refl
 
 pub opens_wholly : (old : LinkTable) (folders : List (List ℕ)) (files : Option (List File)) (failures failures' h : ℕ) (ask : OpenAsk) (does : MemoryChange) (denied : ℕ) (came : Served) (result : Answered)
-    → OpensUnlessReadsFail old folders files failures failures' h ask came → result ≡ answer_with does denied came → OpensWholly old folders files failures failures' h ask result
+    → OpensUnlessReadsFail old folders files failures failures' h ask came → result ≡ answer_with does denied came → AnswersUnlessReadsFail old folders files failures failures' h ask result
 opens_wholly old folders files failures failures' h ask does denied came result whole is = λ told are unrisen w id root added ranges over may.
     subst (Reaches root) (sym is) (reaches root does denied came (whole told are unrisen w id root added ranges over may))
 

@@ -14,7 +14,7 @@ use Rattle.history_calls.specs.Call.{Call, opens}
 use Rattle.link_state.specs.Table.{LinkTable}
 use Rattle.world_memory.specs.declared.turn_answers.answered.Answered.{Answered}
 use Rattle.world_answers.specs.Answers.{AnswersDue, AnswersIn, AnswersOver, is_service}
-use Rattle.world_answers.specs.Openings.{OpensWholly, TurnOpensWholly, TurnReadsNothing, TurnRefusalIsCounted}
+use Rattle.world_answers.specs.Openings.{AnswersUnlessReadsFail, TurnAnswersUnlessReadsFail, TurnReadsNothing, TurnRefusalIsCounted}
 
 -- ---- what came
 
@@ -34,9 +34,9 @@ same_ask : (ask other : OpenAsk) (return back : Return) → Due.serve (opens ask
 same_ask ask other return back is = cc
 
 pub wholly : (old : LinkTable) (folders : List (List ℕ)) (files : Option (List File)) (failures failures' h : ℕ) (d : Due) (ask : OpenAsk) (return : Return) (came : Answered)
-    → Due.serve (opens ask) return ≡ d → OpensWholly old folders files failures failures' h ask came → TurnOpensWholly old folders files failures failures' h d came
+    → Due.serve (opens ask) return ≡ d → AnswersUnlessReadsFail old folders files failures failures' h ask came → TurnAnswersUnlessReadsFail old folders files failures failures' h d came
 wholly old folders files failures failures' h d ask return came is whole = λ other back due.
-    subst (λ (a : OpenAsk). OpensWholly old folders files failures failures' h a came) (same_ask ask other return back (is ∙ due)) whole
+    subst (λ (a : OpenAsk). AnswersUnlessReadsFail old folders files failures failures' h a came) (same_ask ask other return back (is ∙ due)) whole
 
 pub needs_none : (s : State) (d : Due) (ask : OpenAsk) (return : Return) → Due.serve (opens ask) return ≡ d → TurnReadsNothing s d → NeedsNoRead s ask
 needs_none s d ask return is reads = reads ask return (sym is)
@@ -52,7 +52,7 @@ differs : (call : Call) (ask : OpenAsk) (return back : Return) → IsOther call 
 differs call ask return back other is = let same : call ≡ opens ask = cc in subst IsOther same other
 
 pub other_wholly : (old : LinkTable) (folders : List (List ℕ)) (files : Option (List File)) (failures failures' h : ℕ) (d : Due) (call : Call) (return : Return) (came : Answered) → IsOther call
-    → Due.serve call return ≡ d → TurnOpensWholly old folders files failures failures' h d came
+    → Due.serve call return ≡ d → TurnAnswersUnlessReadsFail old folders files failures failures' h d came
 other_wholly old folders files failures failures' h d call return came other is = λ ask back due. absurd (differs call ask return back other (is ∙ due))
 
 pub other_shows : (folders : List (List ℕ)) (past events : List Event) (h : ℕ) (d : Due) (call : Call) (return : Return) (failures failures' misses misses' : ℕ) → IsOther call → Due.serve call return ≡ d

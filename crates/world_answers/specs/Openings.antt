@@ -52,14 +52,14 @@ Reaches root (answered.Again for) = ⊥
 Reaches root (answered.Over reason) = reason ≡ ends.Memory
 
 -- where the library tells its files and no read failed, an opening that finds all that it needs opens
-abbrev pub OpensWholly : LinkTable → List (List ℕ) → Option (List File) → ℕ → ℕ → ℕ → OpenAsk → Answered → Type 0
-OpensWholly old folders files failures failures' h ask came =
+abbrev pub AnswersUnlessReadsFail : LinkTable → List (List ℕ) → Option (List File) → ℕ → ℕ → ℕ → OpenAsk → Answered → Type 0
+AnswersUnlessReadsFail old folders files failures failures' h ask came =
     (told : List File) → files ≡ Some told → ¬ (Rises failures failures') → (w : Setting) (id root : ℕ) (added : List Loaded) (ranges : List Range)
     → IsOver (machine_of old.harts) folders (Some told) w → Opens w (after old.events) h ask id root added ranges → Reaches root came
 
-abbrev pub TurnOpensWholly : LinkTable → List (List ℕ) → Option (List File) → ℕ → ℕ → ℕ → Due → Answered → Type 0
-TurnOpensWholly old folders files failures failures' h d came =
-    (ask : OpenAsk) (return : Return) → d ≡ Due.serve (opens ask) return → OpensWholly old folders files failures failures' h ask came
+abbrev pub TurnAnswersUnlessReadsFail : LinkTable → List (List ℕ) → Option (List File) → ℕ → ℕ → ℕ → Due → Answered → Type 0
+TurnAnswersUnlessReadsFail old folders files failures failures' h d came =
+    (ask : OpenAsk) (return : Return) → d ≡ Due.serve (opens ask) return → AnswersUnlessReadsFail old folders files failures failures' h ask came
 
 -- ---- refusals
 

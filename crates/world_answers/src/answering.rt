@@ -6,7 +6,7 @@ ghost use Rattle.hart_seat.specs.HartParts.Views.{due_in};
 ghost use Rattle.history_state.specs.After.{after};
 ghost use Rattle.history_state.specs.Objects.{is_startup};
 ghost use Rattle.world_answers.specs.Answers.{AnswersDue, HasFinishedFirst, IsFreeFirst, MayEndIn, WritesSome, is_service};
-ghost use Rattle.world_answers.specs.Openings.{TurnOpensWholly, TurnReadsNothing, TurnRefusalIsCounted};
+ghost use Rattle.world_answers.specs.Openings.{TurnAnswersUnlessReadsFail, TurnReadsNothing, TurnRefusalIsCounted};
 
 use crate::closing::{close, unmap};
 use crate::ending::stop;
@@ -49,7 +49,7 @@ pub fn answer<L: Library>(
         AnswersDue state.old folders.now (L.files library.old) id (due (after state.old.events) hart.now.hart) came state.new) }
     ensures other { IfNone result (is_service (due (after state.old.events) hart.now.hart) ≡ false) }
     ensures unchanged { IfNone result ((state.new ≡ state.old) × (library.new ≡ library.old)) }
-    ensures whole { IfSome result (λ came. TurnOpensWholly state.old folders.now (L.files library.old)
+    ensures whole { IfSome result (λ came. TurnAnswersUnlessReadsFail state.old folders.now (L.files library.old)
         (L.faults library.old) (L.faults library.new) id (due (after state.old.events) hart.now.hart) came) }
     ensures counts { TurnRefusalIsCounted folders.now state.old.events state.new.events id (due (after state.old.events) hart.now.hart)
         (L.faults library.old) (L.faults library.new) (L.misses library.old) (L.misses library.new) }

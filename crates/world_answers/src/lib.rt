@@ -36,6 +36,7 @@ pub use guests::{
     guests_take_turns, refusals_are_counted, runs_stay, take_final, take_quiet, take_service,
 };
 pub use law::ends_are_few;
+pub use locating::tls_end;
 pub use returns::{
     FinalTurn, begin, complete, finals_go_on, settle_all, settling_keeps_finals, take_answer,
 };

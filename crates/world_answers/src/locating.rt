@@ -2,18 +2,15 @@
 
 ghost use Rattle.std.specs.Prelude.{◌≡◌, ◌<◌};
 ghost use Rattle.history_calls.specs.Call.{locates};
-ghost use Rattle.history_calls.specs.Gives.{variable_at};
 ghost use Rattle.world_answers.specs.Answers.{AnswersIn, MayEndIn};
 ghost use Rattle.world_answers.specs.Faults.{tls_end};
 
 use crate::ending::end;
+use hart_seat::variable_at;
 use history_event::HartEnd;
 use ld_base::HartId;
 use link_state::{LinkState, TlsFault};
 use world_memory::{Answered, MemoryChange};
-
-/// Offsets count from so many bytes behind a block's start (psABI, "Thread Local Storage").
-const BIAS: u64 = 0x800;
 
 /// Where a variable of the module with a number is in the hart's block (`__tls_get_addr`).
 pub(crate) fn locate(state: &mut LinkState, id: HartId, number: u64, offset: u64) -> Answered
@@ -28,15 +25,8 @@ pub(crate) fn locate(state: &mut LinkState, id: HartId, number: u64, offset: u64
     }
 }
 
-/// The address of a variable in a block.
-fn variable_at(block: u64, offset: u64) -> u64
-    ensures { result ≡ variable_at block offset }
-{
-    block.wrapping_add(offset).wrapping_add(BIAS)
-}
-
 /// As what a hart ends that has no block.
-fn tls_end(fault: TlsFault) -> HartEnd
+pub fn tls_end(fault: TlsFault) -> HartEnd
     ensures { result ≡ tls_end fault }
 {
     match fault {

@@ -7,7 +7,7 @@ ghost use Rattle.history_state.specs.After.{after};
 ghost use Rattle.history_state.specs.Objects.{is_startup};
 ghost use Rattle.history_calls.specs.Call.{opens};
 ghost use Rattle.world_answers.specs.Answers.{AnswersOver, MayEndIn};
-ghost use Rattle.world_answers.specs.Openings.{OpensWholly, RefusalIsCounted, dlmopen_ask, dlopen_ask};
+ghost use Rattle.world_answers.specs.Openings.{AnswersUnlessReadsFail, RefusalIsCounted, dlmopen_ask, dlopen_ask};
 
 use crate::callers::caller_in;
 use crate::served::answer_with;
@@ -33,7 +33,7 @@ pub(crate) fn dlopen<L: Library>(
     requires may_end { MayEndIn state.old id }
     ensures answered { AnswersOver state.old folders.now (L.files library.old) id
         (opens (dlopen_ask (after state.old.events) caller (option_copied name.entry) flags)) result state.new }
-    ensures whole { OpensWholly state.old folders.now (L.files library.old) (L.faults library.old) (L.faults library.new) id
+    ensures whole { AnswersUnlessReadsFail state.old folders.now (L.files library.old) (L.faults library.old) (L.faults library.new) id
         (dlopen_ask (after state.old.events) caller (option_copied name.entry) flags) result }
     ensures counts { RefusalIsCounted folders.now state.old.events state.new.events id
         (L.faults library.old) (L.faults library.new) (L.misses library.old) (L.misses library.new) }
@@ -65,7 +65,7 @@ pub(crate) fn dlmopen<L: Library>(
     requires may_end { MayEndIn state.old id }
     ensures answered { AnswersOver state.old folders.now (L.files library.old) id
         (opens (dlmopen_ask namespace (option_copied name.entry) flags)) result state.new }
-    ensures whole { OpensWholly state.old folders.now (L.files library.old) (L.faults library.old) (L.faults library.new) id
+    ensures whole { AnswersUnlessReadsFail state.old folders.now (L.files library.old) (L.faults library.old) (L.faults library.new) id
         (dlmopen_ask namespace (option_copied name.entry) flags) result }
     ensures counts { RefusalIsCounted folders.now state.old.events state.new.events id
         (L.faults library.old) (L.faults library.new) (L.misses library.old) (L.misses library.new) }

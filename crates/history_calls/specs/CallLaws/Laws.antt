@@ -51,9 +51,9 @@ RefusedByAsking = (w : Setting) (s : State) (hart : ℕ) (ask : OpenAsk) (fault 
 abbrev pub LeadsNowhere : Type 0
 LeadsNowhere = (load : Load) → load.program ≡ false → ReadsNothing load → named_there load ≡ None → find_opened load [] load.name ≡ nowhere
 
--- a call whose failed reads show in the library's counts is whole where the counts show none
-abbrev pub WholeUnlessReadsFail : Type 0
-WholeUnlessReadsFail = (m : Machine) (folders : List (List ℕ)) (files : List File) (past given : List Event) (h : ℕ)
+-- a call whose failed reads show in the counts of the library opens what it can where the counts show none
+abbrev pub OpensUnlessFaultsShow : Type 0
+OpensUnlessFaultsShow = (m : Machine) (folders : List (List ℕ)) (files : List File) (past given : List Event) (h : ℕ)
     (ask : OpenAsk) (came : Served) (failures failures' : ℕ)
     → ((w : Setting) → IsOver m folders (Some files) w → IsServed w past h (opens ask) came given)
     → FaultsShow (refusal_of came) failures failures' → ¬ (Rises failures failures')

@@ -2,7 +2,7 @@
 
 ghost use Rattle.history_calls.specs.CallLaws.Laws.{ClosingKeepsImages, ClosingKeepsOrder, ElsewhereByLinker, HeldByCode, LeadsNowhere, NewEdgesSuffice};
 ghost use Rattle.history_calls.specs.CallLaws.Laws.{NewStandBehind, NumberedByPlace};
-ghost use Rattle.history_calls.specs.CallLaws.Laws.{RefusedByAsking, StartsUnlessReadsFail, WholeUnlessReadsFail};
+ghost use Rattle.history_calls.specs.CallLaws.Laws.{RefusedByAsking, StartsUnlessReadsFail, OpensUnlessFaultsShow};
 
 /// What an opening is refused for before anything is looked for the history refuses it for.
 pub fn refused_by_asking()
@@ -17,7 +17,7 @@ pub fn nothing_leads_nowhere()
 /// Where the library's counts show that no read failed, an opening that finds all that it needs opens,
 /// and a run whose program opens and whose harts are found starts.
 pub fn only_failed_reads_stop()
-    ensures opens { WholeUnlessReadsFail }
+    ensures opens { OpensUnlessFaultsShow }
     ensures starts { StartsUnlessReadsFail }
 {
     crate::one_answer();

@@ -2,7 +2,7 @@
 use Rattle.std.proofs.Common.{ℕ, List, [], ◌∷◌, Some, Err}
 use Rattle.history_calls.specs.CallLaws.Coming.{IsOver}
 use Rattle.history_calls.specs.CallLaws.Counts.{ShowsInCounts}
-use Rattle.history_calls.specs.CallLaws.Laws.{WholeUnlessReadsFail}
+use Rattle.history_calls.specs.CallLaws.Laws.{OpensUnlessFaultsShow}
 use Rattle.ld_base.specs.declared.linking.File.{File}
 use Rattle.ld_base.specs.declared.linking.Loaded.{Loaded}
 use Rattle.library_source.specs.Count.{Rises}
@@ -23,7 +23,7 @@ use Rattle.link_open_plan.specs.declared.planning.Unopened.{Unopened}
 use Rattle.link_open_plan.specs.declared.planning.Unopened.TheVariants as unopened
 use Rattle.link_calls.specs.LinkOpening.Planned.{HasPlan, IsUnplanned}
 
-module _ (law : WholeUnlessReadsFail) (m : Machine) (folders : List (List ℕ)) (files : List File) (past : List Event) (hart : ℕ) (ask : OpenAsk)
+module _ (law : OpensUnlessFaultsShow) (m : Machine) (folders : List (List ℕ)) (files : List File) (past : List Event) (hart : ℕ) (ask : OpenAsk)
     (Are : List ℕ → List (List ℕ) → Type 0) (failures failures' misses misses' : ℕ) (none_fails : ¬ (Rises failures failures')) where
   -- why there is none is what no run over these files has
   pub has_plan : (why : Unopened) → ((w : Setting) → IsOver m folders (Some files) w → IsUnplanned w (after past) hart ask why)
