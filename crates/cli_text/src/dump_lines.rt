@@ -155,6 +155,10 @@ fn write_slots(text: &mut String, slots: &[Reloc]) -> Result<(), AllocError>
 }
 
 /// The text of an object.
+///
+/// # Errors
+///
+/// Want of memory. A text that has more than 128 MiB before another symbol counts as that.
 #[tactic(auto, unfolding(crate::specs::DumpLines::dump_text))]
 pub fn dump_text(alloc: Global, object: &Object) -> Result<String, AllocError>
     ensures { IfOk result (λ text. string_bytes text ≡ dump_text object.now) }

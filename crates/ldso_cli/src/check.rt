@@ -21,6 +21,10 @@ use trace_check::{CheckFault, TraceCause, check_trace};
 const MOST_BYTES: usize = 1 << 23;
 
 /// Reads the trace at a path, and judges it. The library is handed back.
+///
+/// # Errors
+///
+/// Want of memory.
 pub(crate) fn check<L: Library>(
     alloc: Global,
     command: Check,

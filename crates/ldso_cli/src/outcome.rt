@@ -64,7 +64,15 @@ pub(crate) fn status_of_fault(fault: &DlFault) -> u8
         DlFault::MissingLibrary(_)
         | DlFault::MissingVersion(_, _, _)
         | DlFault::MissingSymbol(_, _, _) => 127,
-        _ => 118,
+        DlFault::NotCode(_, _)
+        | DlFault::NeedsStaticTls(_)
+        | DlFault::AddressSpaceFull(_)
+        | DlFault::NamespacesFull
+        | DlFault::BadHandle(_)
+        | DlFault::BadFlags(_)
+        | DlFault::ClosingHere(_)
+        | DlFault::NameTooLong
+        | DlFault::BadNamespace(_) => 118,
     }
 }
 

@@ -128,6 +128,10 @@ fn run_setup<R: Threads + Wait + Sync, L: Library + Send + Drop>(
 }
 
 /// Runs a program on threads, and gives its journal, or what it wrote. The library is handed back.
+///
+/// # Errors
+///
+/// Want of memory.
 pub(crate) fn run<R: Threads + Wait + Sync, L: Library + Send + Drop>(
     rt: &R,
     alloc: Global,
