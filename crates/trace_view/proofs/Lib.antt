@@ -1,4 +1,5 @@
 pub mod Ended
+pub mod Grants
 pub mod Lanes
 pub mod Read
 pub mod Whole

@@ -107,10 +107,10 @@ unfoldable pub path_start : ℕ → ℕ → List ℕ
 path_start x from = codes "<path d=\"M" ++ decimal x ++ codes " " ++ decimal from
 
 unfoldable pub path_bend : ℕ → ℕ → ℕ → ℕ → List ℕ
-path_bend left middle x to = codes "Q" ++ decimal left ++ codes " " ++ decimal middle ++ codes " " ++ decimal x ++ codes " " ++ decimal to
+path_bend left middle x to = codes "Q" ++ decimal left ++ codes " " ++ decimal middle ++ codes " " ++ decimal x ++ codes " " ++ decimal to ++ codes "\""
 
 unfoldable pub stroke_text : List ℕ → List ℕ
-stroke_text colour = codes "\" fill=\"none\" stroke=\"" ++ colour ++ codes "\"/>\n"
+stroke_text colour = codes " fill=\"none\" stroke=\"" ++ colour ++ codes "\"/>\n"
 
 abbrev pub curve_text : ℕ → ℕ → ℕ → ℕ → ℕ → List ℕ → List ℕ
 curve_text x left from middle to colour = path_start x from ++ path_bend left middle x to ++ stroke_text colour
@@ -124,10 +124,10 @@ unfoldable pub arc_text : ℕ → Step → List ℕ
 arc_text x step = arc_from x (colour_of step.event) step.row step.grant
 
 unfoldable pub circle_x : ℕ → List ℕ
-circle_x x = codes "<circle cx=\"" ++ decimal x
+circle_x x = codes "<circle cx=\"" ++ decimal x ++ codes "\""
 
 unfoldable pub circle_y : ℕ → List ℕ
-circle_y y = codes "\" cy=\"" ++ decimal y ++ codes "\" r=\"4\""
+circle_y y = codes " cy=\"" ++ decimal y ++ codes "\" r=\"4\""
 
 abbrev pub circle_text : ℕ → ℕ → List ℕ
 circle_text x y = circle_x x ++ circle_y y
@@ -154,10 +154,10 @@ unfoldable pub opening_text : List ℕ
 opening_text = codes "<svg xmlns=\"http://www.w3.org/2000/svg\""
 
 unfoldable pub size_text : ℕ → ℕ → List ℕ
-size_text width height = codes " width=\"" ++ decimal width ++ codes "\" height=\"" ++ decimal height
+size_text width height = codes " width=\"" ++ decimal width ++ codes "\" height=\"" ++ decimal height ++ codes "\""
 
 unfoldable pub ground_text : List ℕ
-ground_text = codes "\" font-family=\"monospace\" font-size=\"12\">\n<rect width=\"100%\" height=\"100%\" fill=\"#ffffff\"/>\n"
+ground_text = codes " font-family=\"monospace\" font-size=\"12\">\n<rect width=\"100%\" height=\"100%\" fill=\"#ffffff\"/>\n"
 
 abbrev pub start_text : ℕ → ℕ → List ℕ
 start_text width height = opening_text ++ size_text width height ++ ground_text

@@ -17,7 +17,7 @@ use ld_base::HartId;
 use std::alloc::{AllocError, Global};
 use std::fmt;
 
-/// A hart, and how many lanes are left of its own.
+/// A hart, and how many lanes stand to the left of its own.
 #[derive(Clone, Copy)]
 struct Lane {
     place: usize,
@@ -138,7 +138,7 @@ fn lane_for(lanes: &[Lane], hart: HartId) -> Option<&Lane>
     lanes.iter().find(|lane| lane.hart == hart)
 }
 
-/// How many lanes are left of a hart's.
+/// How many lanes stand to the left of a hart's own.
 #[tactic(auto, unfolding(crate::specs::Picture::lane_of))]
 fn lane_of(lanes: &[Lane], hart: Option<HartId>) -> usize
     ensures { result ≡ lane_of lanes.now hart }
@@ -254,14 +254,14 @@ fn write_path_bend(
 ) -> Result<(), AllocError>
     ensures { OnOk result (string_bytes text.new ≡ string_bytes text.old ++ path_bend left middle x to) }
 {
-    write!(text, "Q{left} {middle} {x} {to}")
+    write!(text, "Q{left} {middle} {x} {to}\"")
 }
 
 #[tactic(auto, unfolding(crate::specs::Picture::stroke_text))]
 fn write_stroke(text: &mut String, colour: &str) -> Result<(), AllocError>
     ensures { OnOk result (string_bytes text.new ≡ string_bytes text.old ++ stroke_text colour.now) }
 {
-    writeln!(text, "\" fill=\"none\" stroke=\"{colour}\"/>")
+    writeln!(text, " fill=\"none\" stroke=\"{colour}\"/>")
 }
 
 /// Writes the row of a step: its mark in the lane of its hart, and its words behind all lanes.
@@ -303,14 +303,14 @@ fn write_circle(text: &mut String, x: u128, y: u128) -> Result<(), AllocError>
 fn write_circle_x(text: &mut String, x: u128) -> Result<(), AllocError>
     ensures { OnOk result (string_bytes text.new ≡ string_bytes text.old ++ circle_x x) }
 {
-    write!(text, "<circle cx=\"{x}")
+    write!(text, "<circle cx=\"{x}\"")
 }
 
 #[tactic(auto, unfolding(crate::specs::Picture::circle_y))]
 fn write_circle_y(text: &mut String, y: u128) -> Result<(), AllocError>
     ensures { OnOk result (string_bytes text.new ≡ string_bytes text.old ++ circle_y y) }
 {
-    write!(text, "\" cy=\"{y}\" r=\"4\"")
+    write!(text, " cy=\"{y}\" r=\"4\"")
 }
 
 #[tactic(auto, unfolding(crate::specs::Picture::fill_text))]
@@ -369,7 +369,7 @@ fn write_opening(text: &mut String) -> Result<(), AllocError>
 fn write_size(text: &mut String, width: u128, height: u128) -> Result<(), AllocError>
     ensures { OnOk result (string_bytes text.new ≡ string_bytes text.old ++ size_text width height) }
 {
-    write!(text, " width=\"{width}\" height=\"{height}")
+    write!(text, " width=\"{width}\" height=\"{height}\"")
 }
 
 #[tactic(auto, unfolding(crate::specs::Picture::ground_text))]
@@ -378,7 +378,7 @@ fn write_ground(text: &mut String) -> Result<(), AllocError>
 {
     write!(
         text,
-        "\" font-family=\"monospace\" font-size=\"12\">\n<rect width=\"100%\" height=\"100%\" fill=\"#ffffff\"/>\n"
+        " font-family=\"monospace\" font-size=\"12\">\n<rect width=\"100%\" height=\"100%\" fill=\"#ffffff\"/>\n"
     )
 }
 

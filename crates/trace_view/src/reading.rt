@@ -1,10 +1,11 @@
 //! Lines of a journal.
 
-ghost use Rattle.std.specs.Prelude.{◌≡◌, ◌≤◌, ◌+◌, [], ◌∷◌, ◌++◌, Some, length, IfOk, IfErr, IfSome, OnOk};
-ghost use Rattle.std.specs.List.{list_all};
+ghost use Rattle.std.specs.Prelude.{◌≡◌, ◌≤◌, ◌+◌, ◌==◌, Some, length, option_map, IfOk, IfErr, IfSome, OnOk};
+ghost use Rattle.std.specs.List.{find, list_all};
 ghost use Rattle.std.specs.Option.{option_copied};
 ghost use Rattle.std.specs.String.{string_bytes};
-ghost use Rattle.trace_view.specs.Journal.{AtNumber, EndsAt, IsJournal, IsRefused, grant_of, last_line, line_length, made_by, noted, settled_by, step_at};
+ghost use Rattle.trace_view.specs.Journal.{EndsAt, IsEnd, IsGrantOf, IsJournal, IsNoEndAt, IsOneMore, IsRefused, IsSettledBy};
+ghost use Rattle.trace_view.specs.Journal.{line_length, made_by, noted, settled_number};
 ghost use Rattle.trace_view.specs.Names.{is_visible};
 
 use crate::fault::ViewFault;
@@ -31,19 +32,36 @@ fn line_length(bytes: &[u8]) -> usize
     count
 }
 
-/// What a last line says behind `end`; none where it is no such line.
-fn last_of(alloc: Global, line: &[u8]) -> Result<Option<String>, AllocError>
-    ensures { IfOk result (λ last. IfSome last (λ words. line.now ≡ last_line (Some (string_bytes words)))) }
+/// The words of a last line behind `end`; none where it is no such line.
+fn last_words(line: &[u8]) -> Option<&str>
+    ensures { IsEnd line.now (option_map (λ words. words.now) result) }
 {
-    let Some(words) = line.strip_prefix(b"end ") else {
-        return Ok(None);
+    let Some(rest) = line.strip_prefix(b"end ") else {
+        return None;
     };
-    let Some(words) = words.strip_suffix(b"\n") else {
-        return Ok(None);
+    let Some(words) = rest.strip_suffix(b"\n") else {
+        return None;
     };
+    if !are_visible(words) {
+        return None;
+    }
     match str::from_utf8(words) {
-        Ok(words) if are_visible(words.as_bytes()) => Ok(Some(String::from_str(alloc, words)?)),
-        _ => Ok(None),
+        Ok(text) => Some(text),
+        Err(_) => None,
+    }
+}
+
+/// What a last line says behind `end`; none where it is no such line.
+///
+/// # Errors
+///
+/// Want of memory.
+fn last_of(alloc: Global, line: &[u8]) -> Result<Option<String>, AllocError>
+    ensures { IfOk result (λ last. IsEnd line.now (option_map string_bytes last)) }
+{
+    match last_words(line) {
+        Some(words) => Ok(Some(String::from_str(alloc, words)?)),
+        None => Ok(None),
     }
 }
 
@@ -55,6 +73,10 @@ fn are_visible(bytes: &[u8]) -> bool
 }
 
 /// Puts the grant that an event makes behind others.
+///
+/// # Errors
+///
+/// Want of memory.
 fn note(grants: &mut Sequence<Made>, event: &EventLine, row: usize) -> Result<(), AllocError>
     ensures { OnOk result (grants.new ≡ noted grants.old (made_by row event.now)) }
 {
@@ -78,28 +100,63 @@ fn note(grants: &mut Sequence<Made>, event: &EventLine, row: usize) -> Result<()
     }
 }
 
+/// The grant of a number at the place that it has where grants are numbered as they are made.
+fn in_place(grants: &[Made], number: GrantNo) -> Option<&Made>
+    ensures { IfSome (option_copied result) (λ made. IsGrantOf grants.now number (Some made)) }
+{
+    let place = number.number().checked_sub(1)?;
+    let made = grants.get(place as usize)?;
+    if made.grant == number {
+        Some(made)
+    } else {
+        None
+    }
+}
+
 /// The first grant of a number.
-fn grant_of(grants: &[Made], number: GrantNo) -> Option<&Made>
-    ensures { option_copied result ≡ grant_of grants.now number }
+fn searched(grants: &[Made], number: GrantNo) -> Option<&Made>
+    ensures { option_copied result ≡ find (λ made. made.grant == number) grants.now }
 {
     grants.iter().find(|made| made.grant == number)
 }
 
-/// The grant that an event settles.
-fn settled_by(grants: &[Made], event: &EventLine) -> Option<Made>
-    ensures { result ≡ settled_by grants.now event.now }
+/// A grant of a number.
+fn grant_of(grants: &[Made], number: GrantNo) -> Option<&Made>
+    ensures { IsGrantOf grants.now number (option_copied result) }
+{
+    match in_place(grants, number) {
+        Some(made) => Some(made),
+        None => searched(grants, number),
+    }
+}
+
+/// The number of the grant that an event settles.
+fn settled_number(event: &EventLine) -> Option<GrantNo>
+    ensures { result ≡ settled_number event.now }
 {
     match event {
-        EventLine::Bound { grant } | EventLine::Lost { grant, .. } => {
-            grant_of(grants, *grant).copied()
-        }
+        EventLine::Bound { grant } | EventLine::Lost { grant, .. } => Some(*grant),
         _ => None,
     }
 }
 
+/// The grant that an event settles.
+fn settled_by(grants: &[Made], event: &EventLine) -> Option<Made>
+    ensures { IsSettledBy grants.now event.now result }
+{
+    match settled_number(event) {
+        Some(number) => grant_of(grants, number).copied(),
+        None => None,
+    }
+}
+
 /// Puts an event behind others, with the grant that it settles, and the grant that it makes.
+///
+/// # Errors
+///
+/// Want of memory.
 fn add(steps: &mut Steps, grants: &mut Sequence<Made>, event: EventLine) -> Result<(), AllocError>
-    ensures steps { OnOk result (steps.new ≡ steps.old ++ step_at (length steps.old) grants.old event ∷ []) }
+    ensures steps { OnOk result (IsOneMore steps.old grants.old event steps.new) }
     ensures grants { OnOk result (grants.new ≡ noted grants.old (made_by (length steps.old) event)) }
 {
     let row = steps.len();
@@ -134,9 +191,13 @@ pub fn read_journal(alloc: Global, bytes: &[u8]) -> Result<Journal, ViewFault>
 }
 
 /// The journal that ends at a line that is no event's.
+///
+/// # Errors
+///
+/// `NoEvent` where the line doesn't say the end, or isn't the last. Or want of memory.
 fn ended(alloc: Global, steps: Steps, line: &[u8], behind: &[u8]) -> Result<Journal, ViewFault>
     ensures last { IfOk result (EndsAt steps line.now behind.now) }
-    ensures refused { IfErr result (AtNumber (length steps + 1)) }
+    ensures refused { IfErr result (IsNoEndAt (length steps + 1) line.now behind.now) }
 {
     let row = steps.len();
     if !behind.is_empty() {
