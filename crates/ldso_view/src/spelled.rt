@@ -1,6 +1,6 @@
 //! What the files of objects say.
 
-ghost use Rattle.std.specs.Prelude.{◌≡◌, All, IfOk, map};
+ghost use Rattle.std.specs.Prelude.{◌≡◌, ◌≤◌, All, IfOk, map};
 ghost use Rattle.ldso_view.specs.Spelled.{IsFound, IsFoundFrom, path_in, unknown};
 
 use elf_object::read_object;
@@ -31,8 +31,9 @@ fn object_at<L: Library>(
     path: &[u8],
     program: bool,
 ) -> Result<Option<Object>, AllocError>
-    ensures found { IfOk result (IsFound (L.files library.old) path.now program) }
+    ensures found { IfOk result (IsFound (L.files library.old) (L.faults library.old) (L.faults library.new) path.now program) }
     ensures files { L.files library.new ≡ L.files library.old }
+    ensures faults { L.faults library.old ≤ L.faults library.new }
 {
     let file = match library.read(path) {
         Ok(bytes) => SharedBytes::from_vec(bytes)?,
@@ -54,8 +55,9 @@ fn found<L: Library>(
     member: &Member,
 ) -> Result<Member, AllocError>
     ensures same { IfOk result (λ m. unknown m ≡ unknown member.now) }
-    ensures found { IfOk result (IsFoundFrom (L.files library.old) folder.now) }
+    ensures found { IfOk result (IsFoundFrom (L.files library.old) (L.faults library.old) (L.faults library.new) folder.now) }
     ensures files { L.files library.new ≡ L.files library.old }
+    ensures faults { L.faults library.old ≤ L.faults library.new }
 {
     let path = path_in(alloc, folder, &member.path)?;
     let object = object_at(alloc, library, path.as_slice(), member.serial.number() == 1)?;
@@ -80,8 +82,9 @@ pub fn all_found<L: Library>(
     members: &[Member],
 ) -> Result<Members, AllocError>
     ensures same { IfOk result (λ all. map unknown all ≡ map unknown members.now) }
-    ensures found { IfOk result (All (IsFoundFrom (L.files library.old) folder.now)) }
+    ensures found { IfOk result (All (IsFoundFrom (L.files library.old) (L.faults library.old) (L.faults library.new) folder.now)) }
     ensures files { L.files library.new ≡ L.files library.old }
+    ensures faults { L.faults library.old ≤ L.faults library.new }
 {
     let mut all = Members::new(alloc);
     for member in members {

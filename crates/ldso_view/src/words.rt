@@ -1,5 +1,9 @@
 //! The words of the command line.
 
+ghost use Rattle.std.specs.Prelude.{IfNone, IfSome};
+ghost use Rattle.clap.specs.Matches.{found_of};
+ghost use Rattle.ldso_view.specs.Asked.{IsAsked, NamesNoForm};
+
 use clap::{Arg, ArgAction, ArgMatches, Command};
 use std::alloc::{AllocError, Global};
 use trace_view::Form;
@@ -18,8 +22,11 @@ pub struct Asked<'a> {
 }
 
 impl<'a> Asked<'a> {
-    /// What the matches of words ask for.
-    pub fn of(matches: &ArgMatches<'a>) -> Option<Self> {
+    /// What the matches of words ask for; none where no form has the word that they give for it.
+    pub fn of(matches: &ArgMatches<'a>) -> Option<Self>
+        ensures asked { IfSome result (IsAsked (found_of matches.now)) }
+        ensures none { IfNone result (NamesNoForm (found_of matches.now)) }
+    {
         Some(Asked {
             form: Form::named(matches.get_str("form")?)?,
             folder: matches.get_str("lib"),
@@ -29,6 +36,10 @@ impl<'a> Asked<'a> {
 }
 
 /// The words that are taken.
+///
+/// # Errors
+///
+/// Want of memory.
 pub fn command<'a>(alloc: Global) -> Result<Command<'a>, AllocError> {
     let form = Arg::new(alloc, "form")
         .required(true)
