@@ -32,7 +32,7 @@ ghost use Rattle.bench.specs.Weak.{undefined};
 
 use elf_object::read_object;
 use history_journal::one_image;
-use ld_base::{Bytes, Choice, Object, Reloc, Serial};
+use ld_base::{Bytes, Choice, Object, Reloc, Serial, SharedBytes};
 use relocator::{Binding, Bindings, TlsPlaces, relocate};
 use seg_image::{low_of, make_image, pages_of};
 use std::alloc::{AllocError, Global};
@@ -108,7 +108,8 @@ fn round(alloc: Global, object: &Object, bindings: &Bindings) -> Result<u64, All
 fn main(rt: HostRuntime) -> io::Result<()> {
     let bytes = fs::read(&rt, "object")?;
     one_image();
-    match read_object(rt.alloc(), bytes.as_slice(), false) {
+    let file = SharedBytes::from_vec(bytes)?;
+    match read_object(rt.alloc(), &file, false) {
         Ok((object, _table)) => println!(rt; "{}", run(rt.alloc(), &object)?),
         Err(_) => println!(rt; "it isn't accepted"),
     }
@@ -229,11 +230,10 @@ rounds-requires-clause-bindings c =
 FILE
 
 cat > "$work/crates/bench/proofs/main/Answers.antt" <<'FILE'
-use Rattle.std.proofs.Common.{sym, false}
 use Rattle.bench.proofs.main.Goals as goal
 
 pub run-requires : goal.run-requires
-run-requires c = c.one_image.ensures.read c.as_slice.result.now false c.in-Ok.object c.in-Ok._table c.in-Ok.ensures.object
+run-requires c = c.one_image.ensures.spelled _ _ _ c.in-Ok.ensures.answers
 FILE
 
 python3 - "$top/bench" "$work/crates/bench/object" <<'OBJECT'
